@@ -1,0 +1,5 @@
+pub mod Scan
+pub mod Folds
+pub mod Named
+pub mod Joins
+pub mod Padded

@@ -1,0 +1,6 @@
+pub mod Said
+pub mod Forms
+pub mod Names
+pub mod Faults
+pub mod Padding
+pub mod Addresses
