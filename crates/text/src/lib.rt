@@ -5,3 +5,4 @@ pub mod case;
 pub mod fault;
 pub mod forms;
 pub mod names;
+pub mod padding;

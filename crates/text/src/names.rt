@@ -1,6 +1,6 @@
 // The names of an address, as parts of it.
 ghost use mathlib.Core.Path.{_≡_};
-ghost use Prim.Native.Nat.{_≤_};
+ghost use Prim.Native.Nat.{_+_, _≤_};
 ghost use lib.ListN.{length};
 ghost use Rattle.text.specs.Names.{names, firstNames, nameLen};
 use crate::case::is_same_text;
@@ -50,7 +50,8 @@ pub fn are_first_names(lead: &[u8], target: &[u8]) -> bool
 
 // How many names there are: one more than there are colons.
 pub fn count_names(s: &[u8]) -> usize
-    ensures { λ r. ⌜ r ≡ length (names (now (s .entry))) ⌝ }
+    ensures value { λ r. ⌜ r ≡ length (names (now (s .entry))) ⌝ }
+    ensures few { λ r. ⌜ r ≤ length (now (s .entry)) + 1 ⌝ }
 {
     let mut count = 1;
     for b in s {

@@ -11,18 +11,7 @@ ghost use Rattle.text.specs.Forms.{isAddress};
 use crate::address::Address;
 use crate::fault::TextFault;
 use crate::fault::check_address;
-
-// The text in 64 bytes, zeros after it.
-fn pad(text: &[u8]) -> [u8; 64]
-    requires { ⌜ length (now text) ≤ 64 ⌝ }
-    ensures { λ r. ⌜ r ≡ padded 64 (now (text .entry)) ⌝ }
-{
-    let mut bytes = [0; 64];
-    for i in 0..text.len() {
-        bytes[i] = text[i];
-    }
-    bytes
-}
+use crate::padding::pad;
 
 // The address that a checked text spells.
 fn spelled(text: &[u8]) -> Address

@@ -10,4 +10,4 @@ loop-b-again c =
     elim (c .if-b-eq58 .came) [ then-b-eq58 w ↦ grind (arith, tells) | else-b-eq58 w ↦ grind (arith, tells) ]
 
 pub returns : need.returns
-returns c = let m = count-end (c .args .s .now) (c .loop-b .b-index) (c .loop-b-test .left) in omega arith
+returns c = let m = count-end (c .args .s .now) (c .loop-b .b-index) (c .loop-b-test .left) in record { value = omega arith; few = omega arith }

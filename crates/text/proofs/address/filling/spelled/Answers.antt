@@ -8,4 +8,4 @@ use Rattle.text.proofs.address.filling.spelled.Needs as need
 
 pub ghost-result : need.ghost-result
 ghost-result c =
-    (grind (arith, tells), (ap (λ z. isAddress (take (length (c .args .text .now)) z)) (c .pad .ensures) ∙ ap isAddress (take-padded (c .args .text .now) 64) ∙ c .pre, tt))
+    (grind (arith, tells), (ap (λ z. isAddress (take (length (c .args .text .now)) z)) (c .pad .ensures) ∙ ap isAddress (take-padded (c .args .text .now) 64 (grind (arith, tells))) ∙ c .pre, tt))

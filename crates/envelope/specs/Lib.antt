@@ -1,0 +1,11 @@
+pub mod Integers
+pub mod Results
+pub mod Views
+pub mod Limits
+pub mod Refusals
+pub mod Forms
+pub mod Layout
+pub mod Decoding
+pub mod Lawful
+pub mod Originators
+pub mod Life

@@ -1,0 +1,5 @@
+mod Reading
+mod Pairs
+mod Writing
+mod Leads
+mod Runs

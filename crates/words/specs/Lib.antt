@@ -1,0 +1,4 @@
+pub mod Appends
+pub mod Numbers
+pub mod Hexes
+pub mod Cuts

@@ -1,0 +1,3 @@
+// Lines read one after another from bytes in memory.
+#[cfg(test)]
+mod lines;
