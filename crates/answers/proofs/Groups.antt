@@ -26,4 +26,5 @@ line-is out n s gs e =
 pub lines-stand-behind : LinesStandBehind
 lines-stand-behind = record {
   answer = λ out n a. line-is out (decimal n) (codes " ") (answerGroups a) (10 ∷ []);
-  end = λ out c. ap (λ t. t ++ (10 ∷ [])) (grouped-is out (endGroups c)) ∙ append-assoc out (joinedGroups (endGroups c)) (10 ∷ []) }
+  end = λ out c. ap (λ t. t ++ (10 ∷ [])) (grouped-is out (endGroups c)) ∙ append-assoc out (joinedGroups (endGroups c)) (10 ∷ []);
+}

@@ -136,7 +136,11 @@ pub fn write_record(number: u64, bytes: &[u8], out: &mut Vec<u8>) -> Result<(), 
 }
 
 // Adds the answer to line `number`: an envelope field by field.
-pub fn write_envelope(number: u64, envelope: Envelope<'_>, out: &mut Vec<u8>) -> Result<(), AllocError>
+pub fn write_envelope(
+    number: u64,
+    envelope: Envelope<'_>,
+    out: &mut Vec<u8>,
+) -> Result<(), AllocError>
     ensures { λ r. ⌜ made r (λ _. vec-items (now (out .exit)) ≡ answerOnto (vec-items (now (out .entry))) number (told (held (envelope .entry)))) ⌝ }
 {
     begin_line(out, number)?;
@@ -154,7 +158,11 @@ pub fn write_way(number: u64, way: Option<Way>, out: &mut Vec<u8>) -> Result<(),
 }
 
 // Adds the answer to line `number`: a reason with its place.
-pub fn write_reason(number: u64, reason: Reason<'_, '_>, out: &mut Vec<u8>) -> Result<(), AllocError>
+pub fn write_reason(
+    number: u64,
+    reason: Reason<'_, '_>,
+    out: &mut Vec<u8>,
+) -> Result<(), AllocError>
     ensures { λ r. ⌜ made r (λ _. vec-items (now (out .exit)) ≡ answerOnto (vec-items (now (out .entry))) number (explained (reasons.told (reason .entry)))) ⌝ }
 {
     begin_line(out, number)?;
@@ -163,7 +171,12 @@ pub fn write_reason(number: u64, reason: Reason<'_, '_>, out: &mut Vec<u8>) -> R
 }
 
 // Adds the answer to line `number`: a refusal.
-pub fn write_refusal(number: u64, verb: Verb, refusal: Refusal, out: &mut Vec<u8>) -> Result<(), AllocError>
+pub fn write_refusal(
+    number: u64,
+    verb: Verb,
+    refusal: Refusal,
+    out: &mut Vec<u8>,
+) -> Result<(), AllocError>
     ensures { λ r. ⌜ made r (λ _. vec-items (now (out .exit)) ≡ answerOnto (vec-items (now (out .entry))) number (refused verb (saidRefusal refusal))) ⌝ }
 {
     begin_line(out, number)?;

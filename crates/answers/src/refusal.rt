@@ -17,7 +17,10 @@ pub fn of_record(fault: RecordFault) -> Refusal
         RecordFault::Length => None,
         RecordFault::Kind => None,
     };
-    Refusal { number: fault.number(), at }
+    Refusal {
+        number: fault.number(),
+        at,
+    }
 }
 
 pub fn of_write(fault: WriteFault) -> Refusal
@@ -28,11 +31,15 @@ pub fn of_write(fault: WriteFault) -> Refusal
         WriteFault::Length => None,
         WriteFault::Buffer => None,
     };
-    Refusal { number: fault.number(), at }
+    Refusal {
+        number: fault.number(),
+        at,
+    }
 }
 
 pub fn of_text(fault: TextFault) -> Refusal
     ensures { λ r. ⌜ saidRefusal r ≡ textRefusal fault ⌝ }
 {
-    Refusal { number: fault.number(), at: None }
+    let number = fault.number();
+    Refusal { number, at: None }
 }

@@ -32,7 +32,11 @@ pub fn after_mark(word: &[u8]) -> Option<&[u8]>
         return None;
     }
     let (mark, digits) = word.split_at(2);
-    if is_word(mark, b"0x") { Some(digits) } else { None }
+    if is_word(mark, b"0x") {
+        Some(digits)
+    } else {
+        None
+    }
 }
 
 fn read_digits(heap: Global, digits: &[u8]) -> Result<Vec<u8>, CallFault>

@@ -21,8 +21,18 @@ fn play_addresses(rt: &LibcRuntime) -> io::Result<()> {
         say(rt, "address", n, is_address(&text[0..n]))?;
     }
     let mut place = Address::shortest();
-    say(rt, "filling with an address", 64, place.fill(&text[0..64]).is_ok())?;
-    say(rt, "filling with an address", 65, place.fill(&text[0..65]).is_ok())?;
+    say(
+        rt,
+        "filling with an address",
+        64,
+        place.fill(&text[0..64]).is_ok(),
+    )?;
+    say(
+        rt,
+        "filling with an address",
+        65,
+        place.fill(&text[0..65]).is_ok(),
+    )?;
     let kept = place.text().len();
     println!(rt, "the address kept has {kept} bytes")
 }
@@ -94,7 +104,10 @@ fn play_expiry(rt: &LibcRuntime, bytes: &[u8]) -> io::Result<()> {
             let end = request.end();
             let before = request.is_live(999_939);
             let at = request.is_live(999_940);
-            println!(rt, "the request expires at {end}: live at 999939 {before}, at 999940 {at}")
+            println!(
+                rt,
+                "the request expires at {end}: live at 999939 {before}, at 999940 {at}"
+            )
         }
         Err(fault) => {
             let number = fault.number();

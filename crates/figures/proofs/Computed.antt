@@ -16,4 +16,5 @@ computed = record {
   no-name-after = refl;
   names-before-dataflow = refl;
   by-names-not-bytes = refl;
-  without-letter-case = refl }
+  without-letter-case = refl;
+}

@@ -27,14 +27,36 @@ use Rattle.routing.specs.declared.row.RouteRow.{RouteRow}
 -- a ferry asks for a berth at the eastern quays
 abbrev pub berthRequest : Plain
 berthRequest = record {
-  kind = 1; code = 0; todt = 1000000; to = 60; ar = 1; vb = 1;
-  on = codes "FERRY000000000000001"; fr = codes "AAA:F1"; ad = codes "XHB:EAST"; df = codes "urn:berth"; ct = []; rest = [] }
+  kind = 1;
+  code = 0;
+  todt = 1000000;
+  to = 60;
+  ar = 1;
+  vb = 1;
+  on = codes "FERRY000000000000001";
+  fr = codes "AAA:F1";
+  ad = codes "XHB:EAST";
+  df = codes "urn:berth";
+  ct = [];
+  rest = [];
+}
 
 -- the shortest texts that are in form, and nothing else
 abbrev pub shortest : Plain
 shortest = record {
-  kind = 1; code = 0; todt = 1000000; to = 60; ar = 0; vb = 1;
-  on = codes "FERRY000000000000001"; fr = codes "A"; ad = codes "B"; df = codes "urn:x"; ct = []; rest = [] }
+  kind = 1;
+  code = 0;
+  todt = 1000000;
+  to = 60;
+  ar = 0;
+  vb = 1;
+  on = codes "FERRY000000000000001";
+  fr = codes "A";
+  ad = codes "B";
+  df = codes "urn:x";
+  ct = [];
+  rest = [];
+}
 
 abbrev pub quays : List RouteRow
 quays =

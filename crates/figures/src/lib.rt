@@ -5,10 +5,8 @@ ghost use Rattle.figures.specs.Figures.{Figures, berthRequest};
 use writing::fields::Content;
 use writing::fields::Fields;
 
-// The request of a ferry for a berth, which the figures are about.
-pub fn berth_request() -> Fields<'static>
-    ensures fields { λ r. ⌜ plain r ≡ berthRequest ⌝ }
-    ensures figures { λ _. ⌜ Figures ⌝ }
+fn request() -> Fields<'static>
+    ensures { λ r. ⌜ plain r ≡ berthRequest ⌝ }
 {
     Fields {
         content: Content::Message,
@@ -23,4 +21,12 @@ pub fn berth_request() -> Fields<'static>
         ct: b"",
         rest: b"",
     }
+}
+
+// The request of a ferry for a berth, which the figures are about.
+pub fn berth_request() -> Fields<'static>
+    ensures fields { λ r. ⌜ plain r ≡ berthRequest ⌝ }
+    ensures figures { λ _. ⌜ Figures ⌝ }
+{
+    request()
 }

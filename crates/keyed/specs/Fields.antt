@@ -80,7 +80,8 @@ restKey Status = codes "text"
 
 abbrev pub fieldsFor : Kind → List (List ℕ) → Plain
 fieldsFor k ws = record {
-  kind = kindFor k; code = codeFor k ws;
+  kind = kindFor k;
+  code = codeFor k ws;
   todt = numberFor 4294967295 0 (find (codes "todt") ws);
   to = numberFor 65535 60 (find (codes "to") ws);
   ar = numberFor 255 0 (find (codes "ar") ws);
@@ -90,7 +91,8 @@ fieldsFor k ws = record {
   ad = textFor (find (codes "ad") ws);
   df = textFor (find (codes "df") ws);
   ct = textFor (find (codes "ct") ws);
-  rest = textFor (find (restKey k) ws) }
+  rest = textFor (find (restKey k) ws);
+}
 
 -- first the shape of all words, then each word from left to right
 abbrev pub fieldsOf : Kind → List (List ℕ) → Result Plain LineFault
@@ -99,6 +101,16 @@ fieldsOf k ws = cond (isShape k ws) (andThen (checkedWords ws) (λ _. Ok (fields
 -- what the fields of a line hold
 abbrev pub fieldText : FieldText → Plain
 fieldText f = record {
-  kind = contentKind (f .content); code = contentCode (f .content); todt = f .todt; to = f .to; ar = f .ar; vb = f .vb;
-  on = vec-items (f .on); fr = vec-items (f .fr); ad = vec-items (f .ad); df = vec-items (f .df); ct = vec-items (f .ct);
-  rest = vec-items (f .rest) }
+  kind = contentKind (f .content);
+  code = contentCode (f .content);
+  todt = f .todt;
+  to = f .to;
+  ar = f .ar;
+  vb = f .vb;
+  on = vec-items (f .on);
+  fr = vec-items (f .fr);
+  ad = vec-items (f .ad);
+  df = vec-items (f .df);
+  ct = vec-items (f .ct);
+  rest = vec-items (f .rest);
+}

@@ -36,7 +36,12 @@ pub struct Service {
 }
 
 // Adds a route row where there is room.
-fn add_route(number: u64, rows: &mut Vec<RouteRow>, row: RouteRow, out: &mut Vec<u8>) -> Result<Outcome, AllocError>
+fn add_route(
+    number: u64,
+    rows: &mut Vec<RouteRow>,
+    row: RouteRow,
+    out: &mut Vec<u8>,
+) -> Result<Outcome, AllocError>
     ensures told { λ r. ⌜ made r (Tells (vec-items (now (out .entry))) number (routeReply (vec-items (now (rows .entry)))) (vec-items (now (out .exit)))) ⌝ }
     ensures rows { λ r. ⌜ made r (λ _. vec-items (now (rows .exit)) ≡ rowsWith row (vec-items (now (rows .entry)))) ⌝ }
 {
@@ -48,7 +53,12 @@ fn add_route(number: u64, rows: &mut Vec<RouteRow>, row: RouteRow, out: &mut Vec
 }
 
 // Does what a call asks for, and tells the reply.
-fn perform(number: u64, rows: &mut Vec<RouteRow>, call: &Call, out: &mut Vec<u8>) -> Result<Outcome, AllocError>
+fn perform(
+    number: u64,
+    rows: &mut Vec<RouteRow>,
+    call: &Call,
+    out: &mut Vec<u8>,
+) -> Result<Outcome, AllocError>
     ensures told { λ r. ⌜ made r (Tells (vec-items (now (out .entry))) number (reply (vec-items (now (rows .entry))) (asked (now (call .entry)))) (vec-items (now (out .exit)))) ⌝ }
     ensures rows { λ r. ⌜ made r (λ _. vec-items (now (rows .exit)) ≡ rowsAfter (vec-items (now (rows .entry))) (asked (now (call .entry)))) ⌝ }
 {
@@ -60,8 +70,19 @@ fn perform(number: u64, rows: &mut Vec<RouteRow>, call: &Call, out: &mut Vec<u8>
             rows.clear();
             Ok(Outcome::Silent)
         }
-        Call::AskWay(target, dataflow) => tell_way(number, rows.as_slice(), target.as_slice(), dataflow.as_slice(), out),
-        Call::AskReason(record, sheet) => tell_reason(number, record.as_slice(), sheet.as_slice(), out),
+        Call::AskWay(target, dataflow) => tell_way(
+            number,
+            rows.as_slice(),
+            target.as_slice(),
+            dataflow.as_slice(),
+            out,
+        ),
+        Call::AskReason(record, sheet) => tell_reason(
+            number,
+            record.as_slice(),
+            sheet.as_slice(),
+            out,
+        ),
     }
 }
 
@@ -73,8 +94,16 @@ fn count(counts: Counts, how: Outcome) -> Counts
     match how {
         Outcome::Silent => Counts { lines, ..counts },
         Outcome::Answered => Counts { lines, ..counts },
-        Outcome::Refused => Counts { lines, refused: counts.refused.saturating_add(1), ..counts },
-        Outcome::Mistaken => Counts { lines, errors: counts.errors.saturating_add(1), ..counts },
+        Outcome::Refused => Counts {
+            lines,
+            refused: counts.refused.saturating_add(1),
+            ..counts
+        },
+        Outcome::Mistaken => Counts {
+            lines,
+            errors: counts.errors.saturating_add(1),
+            ..counts
+        },
     }
 }
 
@@ -89,7 +118,11 @@ impl Service {
             refused: 0,
             errors: 0,
         };
-        Service { heap, routes: Vec::new(heap), counts }
+        Service {
+            heap,
+            routes: Vec::new(heap),
+            counts,
+        }
     }
 
     fn tell_line(&mut self, line: &[u8], out: &mut Vec<u8>) -> Result<Outcome, AllocError>

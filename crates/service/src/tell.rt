@@ -39,7 +39,11 @@ pub(crate) enum Outcome {
     Mistaken,
 }
 
-pub(crate) fn tell_record(number: u64, bytes: &[u8], out: &mut Vec<u8>) -> Result<Outcome, AllocError>
+pub(crate) fn tell_record(
+    number: u64,
+    bytes: &[u8],
+    out: &mut Vec<u8>,
+) -> Result<Outcome, AllocError>
     ensures { λ r. ⌜ made r (Tells (vec-items (now (out .entry))) number (Some (readReply (decode (now (bytes .entry))))) (vec-items (now (out .exit)))) ⌝ }
 {
     match read(bytes) {
@@ -54,7 +58,13 @@ pub(crate) fn tell_record(number: u64, bytes: &[u8], out: &mut Vec<u8>) -> Resul
     }
 }
 
-pub(crate) fn tell_way(number: u64, rows: &[RouteRow], target: &[u8], dataflow: &[u8], out: &mut Vec<u8>) -> Result<Outcome, AllocError>
+pub(crate) fn tell_way(
+    number: u64,
+    rows: &[RouteRow],
+    target: &[u8],
+    dataflow: &[u8],
+    out: &mut Vec<u8>,
+) -> Result<Outcome, AllocError>
     ensures { λ r. ⌜ made r (Tells (vec-items (now (out .entry))) number (Some (wayReply (chosenWay (now (rows .entry)) (now (target .entry)) (now (dataflow .entry))))) (vec-items (now (out .exit)))) ⌝ }
 {
     match choose(rows, target, dataflow) {
@@ -69,7 +79,12 @@ pub(crate) fn tell_way(number: u64, rows: &[RouteRow], target: &[u8], dataflow: 
     }
 }
 
-pub(crate) fn tell_reason(number: u64, bytes: &[u8], sheet: &[u8], out: &mut Vec<u8>) -> Result<Outcome, AllocError>
+pub(crate) fn tell_reason(
+    number: u64,
+    bytes: &[u8],
+    sheet: &[u8],
+    out: &mut Vec<u8>,
+) -> Result<Outcome, AllocError>
     ensures { λ r. ⌜ made r (Tells (vec-items (now (out .entry))) number (Some (reasonReply (reasonOf (now (bytes .entry)) (now (sheet .entry))))) (vec-items (now (out .exit)))) ⌝ }
 {
     match reason(bytes, sheet) {
@@ -84,7 +99,11 @@ pub(crate) fn tell_reason(number: u64, bytes: &[u8], sheet: &[u8], out: &mut Vec
     }
 }
 
-pub(crate) fn tell_error(number: u64, fault: LineFault, out: &mut Vec<u8>) -> Result<Outcome, AllocError>
+pub(crate) fn tell_error(
+    number: u64,
+    fault: LineFault,
+    out: &mut Vec<u8>,
+) -> Result<Outcome, AllocError>
     ensures { λ r. ⌜ made r (Tells (vec-items (now (out .entry))) number (Some (error fault)) (vec-items (now (out .exit)))) ⌝ }
 {
     write_error(number, fault, out)?;
@@ -94,7 +113,11 @@ pub(crate) fn tell_error(number: u64, fault: LineFault, out: &mut Vec<u8>) -> Re
 // The longest record.
 const ROOM: usize = 2048;
 
-pub(crate) fn tell_fields(number: u64, fields: &FieldText, out: &mut Vec<u8>) -> Result<Outcome, AllocError>
+pub(crate) fn tell_fields(
+    number: u64,
+    fields: &FieldText,
+    out: &mut Vec<u8>,
+) -> Result<Outcome, AllocError>
     ensures { λ r. ⌜ made r (Tells (vec-items (now (out .entry))) number (Some (writeReply (fieldText (now (fields .entry))) (writeAnswer (fieldText (now (fields .entry))) 2048))) (vec-items (now (out .exit)))) ⌝ }
 {
     let mut room = [0; ROOM];

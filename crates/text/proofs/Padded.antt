@@ -25,9 +25,9 @@ pub pad-all : (bs : List ℕ) (n i : ℕ) → i ≡ min n (length bs) → take i
 unfolding padded
 pad-all bs n i e =
     let front : take i bs ≡ take n bs = ⊎-elim
-        (λ (h : n < length bs). ap (λ m. take m bs) (omega arith))
-        (λ (h : length bs ≤ n). take-all i bs (omega arith) ∙ sym (take-all n bs (omega arith)))
-        (cases-lt n (length bs)) in
+    (λ (h : n < length bs). ap (λ m. take m bs) (omega arith))
+    (λ (h : length bs ≤ n). take-all i bs (omega arith) ∙ sym (take-all n bs (omega arith)))
+    (cases-lt n (length bs)) in
     let zeros : n - i ≡ n - length bs = omega arith in
     λ j. front j ++ replicate {A = ℕ} (zeros j) 0
 
