@@ -1,0 +1,2 @@
+pub mod Clients
+pub mod WhiteLists

@@ -1,0 +1,3 @@
+pub mod Kepts
+pub mod Messages
+pub mod Statuses

@@ -1,0 +1,5 @@
+pub mod Kinds
+pub mod Refusals
+pub mod Searches
+pub mod Changes
+pub mod Promises

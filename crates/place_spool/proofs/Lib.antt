@@ -1,0 +1,4 @@
+pub mod Celled
+pub mod Stretches
+pub mod Places
+pub mod Wiped
