@@ -6,7 +6,7 @@ use spool::fault::SpoolFaultPartialEq;
 use std::test::*;
 
 // Stores at the place, and copies the same bytes out again.
-pub fn expect_kept<S: Spool>(spool: &mut S, place: usize, bytes: &[u8]) -> Result<(), Fail> {
+pub(crate) fn expect_kept<S: Spool>(spool: &mut S, place: usize, bytes: &[u8]) -> Result<(), Fail> {
     let mut buf = [7; 2049];
     check_eq(spool.store(place, bytes), Ok(()))?;
     check_eq(spool.length(place), Ok(bytes.len()))?;
@@ -16,7 +16,7 @@ pub fn expect_kept<S: Spool>(spool: &mut S, place: usize, bytes: &[u8]) -> Resul
 }
 
 // The place is there, and empty.
-pub fn expect_empty<S: Spool>(spool: &S, place: usize) -> Result<(), Fail> {
+pub(crate) fn expect_empty<S: Spool>(spool: &S, place: usize) -> Result<(), Fail> {
     let mut buf = [7; 1];
     check_eq(spool.length(place), Ok(0))?;
     check_eq(spool.copy_out(place, &mut buf), Ok(0))?;
@@ -25,7 +25,7 @@ pub fn expect_empty<S: Spool>(spool: &S, place: usize) -> Result<(), Fail> {
 }
 
 // There is no such place: each call says so first, whatever else is wrong with it.
-pub fn expect_no_place<S: Spool>(spool: &mut S, place: usize) -> Result<(), Fail> {
+pub(crate) fn expect_no_place<S: Spool>(spool: &mut S, place: usize) -> Result<(), Fail> {
     check_eq(spool.length(place), Err(SpoolFault::NoPlace))?;
     check_eq(spool.store(place, b"a"), Err(SpoolFault::NoPlace))?;
     check_eq(spool.store(place, b""), Err(SpoolFault::NoPlace))?;
@@ -34,7 +34,7 @@ pub fn expect_no_place<S: Spool>(spool: &mut S, place: usize) -> Result<(), Fail
 }
 
 // So many places, the first and the last of them empty.
-pub fn expect_places<S: Spool>(spool: &mut S, count: usize) -> Result<(), Fail> {
+pub(crate) fn expect_places<S: Spool>(spool: &mut S, count: usize) -> Result<(), Fail> {
     check_eq(spool.count(), count)?;
     if count > 0 {
         expect_empty(spool, 0)?;
@@ -44,7 +44,7 @@ pub fn expect_places<S: Spool>(spool: &mut S, count: usize) -> Result<(), Fail> 
 }
 
 // The lengths that a place takes and does not take, and a buffer that is one byte too short.
-pub fn play_lengths<S: Spool>(spool: &mut S, place: usize) -> Result<(), Fail> {
+pub(crate) fn play_lengths<S: Spool>(spool: &mut S, place: usize) -> Result<(), Fail> {
     let mut buf = [7; 2];
     expect_kept(spool, place, &[5; 2048])?;
     check_eq(spool.store(place, &[6; 2049]), Err(SpoolFault::Unstorable))?;
