@@ -1,3 +1,0 @@
-pub mod Standings
-pub mod Searches
-pub mod Earliest
