@@ -1,2 +1,5 @@
 // Comparing addresses by their names.
+
+#![tactic(auto)]
+
 pub mod names;

@@ -1,3 +1,6 @@
 // What the words of a call stand for: numbers, hex digits and texts.
+
+#![tactic(auto)]
+
 pub mod fault;
 pub mod value;

@@ -1,4 +1,7 @@
 // The call that a line makes.
+
+#![tactic(auto)]
+
 pub mod call;
 mod envelope_words;
 mod question;

@@ -1,4 +1,7 @@
 // The white list: which clients may connect, by the fingerprints of their certificates.
+
+#![tactic(auto)]
+
 pub mod client;
 mod fingerprint;
 pub mod white_list;

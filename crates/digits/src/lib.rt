@@ -1,3 +1,6 @@
 // Numbers in decimal digits and bytes in hex digits, read and written.
+
+#![tactic(auto)]
+
 pub mod hex;
 pub mod number;

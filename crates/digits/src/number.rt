@@ -37,7 +37,8 @@ pub fn number(text: &[u8], most: u64) -> Option<u64>
 fn push_digits(n: u64, out: &mut Vec<u8>) -> Result<(), AllocError>
     ensures { out.new.items ≡ appended result (decimal n) out.old.items }
 {
-    let text = n.to_string(out.allocator())?;
+    let heap = *out.allocator();
+    let text = n.to_string(heap)?;
     out.extend_from_slice(text.as_bytes())
 }
 

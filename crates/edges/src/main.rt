@@ -1,4 +1,7 @@
 // Plays the edges of the forms and of the record: the last that is lawful, and the first that is not.
+
+#![tactic(auto)]
+
 use envelope_fields::fields::Fields;
 use envelope_reading::reading::read;
 use figures::berth_request;

@@ -1,4 +1,7 @@
 // Envelopes as they stand in a record: the record's layout, and what an envelope tells.
+
+#![tactic(auto)]
+
 pub mod fault;
 pub mod life;
 pub mod limits;

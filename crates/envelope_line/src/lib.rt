@@ -1,2 +1,5 @@
 // The line that tells an envelope.
+
+#![tactic(auto)]
+
 pub mod line;

@@ -1,4 +1,7 @@
 // Reading a record.
+
+#![tactic(auto)]
+
 mod fields;
 mod integers;
 pub mod reading;

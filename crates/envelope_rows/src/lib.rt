@@ -1,2 +1,5 @@
 // What the rows for messages and for statuses have in common.
+
+#![tactic(auto)]
+
 pub mod kept;

@@ -1,4 +1,7 @@
 // The worked figures that the documents give, proved of the definitions, under one claim.
+
+#![tactic(auto)]
+
 ghost use Rattle.std.specs.Prelude.{◌≡◌};
 ghost use Rattle.envelope_fields.specs.Plain.{plain};
 ghost use Rattle.figures.specs.Figures.{Figures, berth_request};

@@ -1,4 +1,7 @@
 // Reads calls on standard input, and answers each at once on standard output.
+
+#![tactic(auto)]
+
 use line_input::input::{Got, next_line};
 use service::service::Service;
 use std::io;

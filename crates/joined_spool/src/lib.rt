@@ -1,4 +1,7 @@
 // A joined spool: two spools as one, the first's places and then the second's, none past 256.
+
+#![tactic(auto)]
+
 mod parts;
 
 ghost use Rattle.std.specs.Prelude.{◌≡◌};

@@ -1,4 +1,7 @@
 // Plays the edges of the ledgers: full ones, ended rows, keys in another letter case, the second of the end, no rows at all.
+
+#![tactic(auto)]
+
 mod messages;
 mod statuses;
 mod telling;

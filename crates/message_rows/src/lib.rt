@@ -1,2 +1,5 @@
 // The rows of the ledger of messages.
+
+#![tactic(auto)]
+
 pub mod message;

@@ -1,4 +1,7 @@
 // A place spool: a spool over the caller's memory, a cell of it for each place.
+
+#![tactic(auto)]
+
 mod cell;
 mod memory;
 

@@ -1,3 +1,6 @@
 // Playing a whole list of calls on a new relay.
+
+#![tactic(auto)]
+
 pub mod entry;
 pub mod play;

@@ -1,4 +1,7 @@
 // The worked figures of the relay that the documents give, proved of the definitions, under one claim.
+
+#![tactic(auto)]
+
 ghost use Rattle.std.specs.Prelude.{◌≡◌};
 ghost use Rattle.envelope_fields.specs.Plain.{plain};
 ghost use Rattle.relay_figures.specs.Scenes.{receipt_report};

@@ -1,3 +1,6 @@
 // Writing a record that was read over again.
+
+#![tactic(auto)]
+
 pub mod fault;
 pub mod rewriting;

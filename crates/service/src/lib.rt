@@ -1,3 +1,6 @@
 // The program's work line by line: what it replies, what it keeps and what it counts.
+
+#![tactic(auto)]
+
 pub mod service;
 mod tell;

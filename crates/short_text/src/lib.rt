@@ -1,2 +1,5 @@
 // Short texts that a row keeps by value.
+
+#![tactic(auto)]
+
 pub mod short_text;

@@ -1,4 +1,7 @@
 // What every spool does, whatever it is made of, and the code that works over any.
+
+#![tactic(auto)]
+
 pub mod fault;
 pub mod sizes;
 pub mod uses;

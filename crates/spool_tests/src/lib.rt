@@ -1,4 +1,7 @@
 // The edges of the three kinds of spool, played.
+
+#![tactic(auto)]
+
 #[cfg(test)]
 mod edges;
 #[cfg(test)]

@@ -1,3 +1,6 @@
 // The standing of each place: what has become of the envelope in it.
+
+#![tactic(auto)]
+
 pub mod standing;
 pub mod table;

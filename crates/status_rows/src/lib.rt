@@ -1,2 +1,5 @@
 // The rows of the ledger of statuses.
+
+#![tactic(auto)]
+
 pub mod status;

@@ -1,2 +1,5 @@
 // The sweep: what is due by the clock alone, done one at a time.
+
+#![tactic(auto)]
+
 pub mod sweep;

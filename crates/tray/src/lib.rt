@@ -1,4 +1,7 @@
 // A tray: a spool with sixteen places of its own.
+
+#![tactic(auto)]
+
 mod slot;
 mod slots;
 

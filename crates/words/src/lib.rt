@@ -1,2 +1,5 @@
 // The words of a line of bytes.
+
+#![tactic(auto)]
+
 pub mod cut;

@@ -4,4 +4,4 @@ pub returns-in-Local : goal.returns-in-Local
 returns-in-Local c = rw c.in-Local.is c.put.ensures
 
 pub returns-in-Neighbour : goal.returns-in-Neighbour
-returns-in-Neighbour c = rw c.in-Neighbour.is c.put-keyed-number.ensures
+returns-in-Neighbour c = rw c.in-Neighbour.is c.put_keyed_number.ensures

@@ -7,4 +7,4 @@ pub returns : goal.returns
 returns c =
     let bytes : (i : ℕ) → get_or c.args.bytes.now i 0 < 256 = search rules in
     let long : length c.args.bytes.now ≡ 64 = search rules in
-    record { words = c.words-of.ensures; back = ap bytes_of c.words-of.ensures ∙ bytes_back c.args.bytes.now bytes long }
+    record { words = c.words_of.ensures; back = ap bytes_of c.words_of.ensures ∙ bytes_back c.args.bytes.now bytes long }

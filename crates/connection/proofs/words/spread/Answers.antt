@@ -18,7 +18,7 @@ loop-i-preserved c =
     let ws = c.args.words.now in
     let l : length ws ≡ 8 = search rules in (
       length-set _ _ _ ∙ c.loop-i.invariant.0,
-      turn ws c.loop-i.bytes i _ l c.loop-i.invariant.0 c.loop-i-test.true c.loop-i.invariant.1 (ap (λ t. get_or t (i % 8) 0) c.to-le-bytes.ensures),
+      turn ws c.loop-i.bytes i _ l c.loop-i.invariant.0 c.loop-i-test.true c.loop-i.invariant.1 (ap (λ t. get_or t (i % 8) 0) c.to_le_bytes.ensures),
     )
 
 pub returns : goal.returns

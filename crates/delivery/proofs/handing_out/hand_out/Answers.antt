@@ -7,5 +7,5 @@ use Rattle.delivery.proofs.handing_out.hand_out.Goals as goal
 pub returns : goal.returns
 returns g c =
     let s = view g.S.Spool.held c.args.relay.now in
-    let e = c.give-out.ensures.answer in
-    record { answer = e; state = c.give-out.ensures.state; fair = subst (Fair (max s.time c.args.clock) s.standings) (sym e) (fairness.fair s c.args.clock) }
+    let e = c.give_out.ensures.answer in
+    record { answer = e; state = c.give_out.ensures.state; fair = subst (Fair (max s.time c.args.clock) s.standings) (sym e) (fairness.fair s c.args.clock) }

@@ -6,14 +6,14 @@ use Rattle.envelope_fields.specs.Forms.{fixed_rows, moving_rows}
 use Rattle.envelope_fields.proofs.Measures.{measured_made}
 use Rattle.envelope_fields.proofs.check.check.Goals as goal
 
-pub returns-in-err-check-fixed : goal.returns-in-err-check-fixed
-returns-in-err-check-fixed c =
+pub returns-in_err-check_fixed : goal.returns-in_err-check_fixed
+returns-in_err-check_fixed c =
     let d = plain c.args.fields in
     let p = err_from_is_err_and c.from-residual.result c.from-residual.ensures.1 in
-    rw (p.1, p.2) (record { value = refused_front (fixed_rows d) (moving_rows d) _ c.in-err-check-fixed.ensures; measured = tt })
+    rw (p.1, p.2) (record { value = refused_front (fixed_rows d) (moving_rows d) _ c.in_err-check_fixed.ensures; measured = tt })
 
 pub returns : goal.returns
 returns c =
     let d = plain c.args.fields in
-    let e = c.check-moving.ensures ∙ passed_front (fixed_rows d) (moving_rows d) c.in-ok-check-fixed.ensures in
-    record { value = e; measured = measured_made d c.check-moving.result e }
+    let e = c.check_moving.ensures ∙ passed_front (fixed_rows d) (moving_rows d) c.in_ok-check_fixed.ensures in
+    record { value = e; measured = measured_made d c.check_moving.result e }

@@ -4,24 +4,24 @@ use Rattle.envelope.specs.Views.{kind_number}
 use Rattle.envelope_reading.proofs.Answered.{fixed_broken, moving_broken, none_broken, no_code}
 use Rattle.envelope_reading.proofs.reading.parse.Goals as goal
 
-pub returns-in-err-check-fixed : goal.returns-in-err-check-fixed
-returns-in-err-check-fixed c =
-    let p = err_from_is_err_and c.from-residual-in-err-check-fixed.result c.from-residual-in-err-check-fixed.ensures.1 in
-    rw (p.1, p.2) (fixed_broken c.args.rec.now _ c.in-ok-kind.ensures.value _ c.in-err-check-fixed.ensures)
+pub returns-in_err-check_fixed : goal.returns-in_err-check_fixed
+returns-in_err-check_fixed c =
+    let p = err_from_is_err_and c.from-residual-in_err-check_fixed.result c.from-residual-in_err-check_fixed.ensures.1 in
+    rw (p.1, p.2) (fixed_broken c.args.rec.now _ c.in_ok-kind.ensures.value _ c.in_err-check_fixed.ensures)
 
-pub returns-in-err-parts : goal.returns-in-err-parts
-returns-in-err-parts c =
-    let p = err_from_is_err_and c.from-residual-in-err-parts.result c.from-residual-in-err-parts.ensures.1 in
-    rw (p.1, p.2) (moving_broken c.args.rec.now _ c.in-ok-kind.ensures.value c.in-ok-check-fixed.ensures _ c.in-err-parts.ensures)
+pub returns-in_err-parts : goal.returns-in_err-parts
+returns-in_err-parts c =
+    let p = err_from_is_err_and c.from-residual-in_err-parts.result c.from-residual-in_err-parts.ensures.1 in
+    rw (p.1, p.2) (moving_broken c.args.rec.now _ c.in_ok-kind.ensures.value c.in_ok-check_fixed.ensures _ c.in_err-parts.ensures)
 
 pub returns-in-Message : goal.returns-in-Message
 returns-in-Message c =
-    let kind = c.in-ok-kind.ensures in
-    let fixed = c.in-ok-check-fixed.ensures in
+    let kind = c.in_ok-kind.ensures in
+    let fixed = c.in_ok-check_fixed.ensures in
     let e = sym (ap kind_number c.in-Message.is) in
-    none_broken c.args.rec.now _ kind.value fixed 1 0 _ e (no_code c.args.rec.now _ kind.value fixed e kind.kind) c.in-ok-parts.ensures
+    none_broken c.args.rec.now _ kind.value fixed 1 0 _ e (no_code c.args.rec.now _ kind.value fixed e kind.kind) c.in_ok-parts.ensures
 
 pub returns-in-Status : goal.returns-in-Status
 returns-in-Status c =
-    let kind = c.in-ok-kind.ensures in
-    none_broken c.args.rec.now _ kind.value c.in-ok-check-fixed.ensures 2 _ _ (sym (ap kind_number c.in-Status.is)) c.u16-at.ensures c.in-ok-parts.ensures
+    let kind = c.in_ok-kind.ensures in
+    none_broken c.args.rec.now _ kind.value c.in_ok-check_fixed.ensures 2 _ _ (sym (ap kind_number c.in-Status.is)) c.u16_at.ensures c.in_ok-parts.ensures

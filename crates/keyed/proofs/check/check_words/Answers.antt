@@ -6,13 +6,13 @@ use Rattle.keyed.specs.Fields.{checked_words}
 use Rattle.keyed.proofs.Finds.{checks_more, checks_stop}
 use Rattle.keyed.proofs.check.check_words.Goals as goal
 
-pub returns-in-err-check-word : goal.returns-in-err-check-word
-returns-in-err-check-word c =
+pub returns-in_err-check_word : goal.returns-in_err-check_word
+returns-in_err-check_word c =
     let p = err_from_is_err_and c.from-residual.result c.from-residual.ensures.1 in
-    rw (p.1, p.2) (checks_stop c.args.words.now c.loop-word.word-index _ c.loop-word-test.true _ c.loop-word.invariant c.in-err-check-word.ensures)
+    rw (p.1, p.2) (checks_stop c.args.words.now c.loop-word.word-index _ c.loop-word-test.true _ c.loop-word.invariant c.in_err-check_word.ensures)
 
 pub loop-word-preserved : goal.loop-word-preserved
-loop-word-preserved c = sym (checks_more c.args.words.now c.loop-word.word-index _ c.loop-word-test.true _ c.in-ok-check-word.ensures) ∙ c.loop-word.invariant
+loop-word-preserved c = sym (checks_more c.args.words.now c.loop-word.word-index _ c.loop-word-test.true _ c.in_ok-check_word.ensures) ∙ c.loop-word.invariant
 
 pub returns : goal.returns
 returns c = sym c.loop-word.invariant ∙ at_drop_all (λ t. checked_words (seen t)) c.args.words.now c.loop-word.word-index c.loop-word-test.false

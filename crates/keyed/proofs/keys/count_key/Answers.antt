@@ -5,12 +5,12 @@ use Rattle.words.specs.Cuts.{seen}
 use Rattle.keyed.specs.Keys.{count}
 use Rattle.keyed.proofs.Finds.{count_more}
 use Rattle.keyed.proofs.keys.count_key.Goals as goal
-use Rattle.keyed.proofs.keys.count_key.Goals.{then-has-key, else-has-key}
+use Rattle.keyed.proofs.keys.count_key.Goals.{then-has_key, else-has_key}
 
 pub loop-word-preserved : goal.loop-word-preserved
 loop-word-preserved c =
-    let m = count_more c.args.name.now c.args.words.now c.loop-word.word-index _ _ c.has-key.ensures c.loop-word-test.true in
-    elim c.if-has-key.branch [ then-has-key w ↦ grind (arith, nat_tests) | else-has-key w ↦ grind (arith, nat_tests) ]
+    let m = count_more c.args.name.now c.args.words.now c.loop-word.word-index _ _ c.has_key.ensures c.loop-word-test.true in
+    elim c.if-has_key.branch [ then-has_key w ↦ grind (arith, nat_tests) | else-has_key w ↦ grind (arith, nat_tests) ]
 
 pub returns : goal.returns
 returns c =

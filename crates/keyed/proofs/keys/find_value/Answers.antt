@@ -13,7 +13,7 @@ returns-in-Some c =
 
 pub loop-word-preserved : goal.loop-word-preserved
 loop-word-preserved c =
-    ap (λ o. or_else o (find c.args.name.now (seen (drop (c.loop-word.word-index + 1) c.args.words.now)))) c.in-default.ensures
+    ap (λ o. or_else o (find c.args.name.now (seen (drop (c.loop-word.word-index + 1) c.args.words.now)))) c.in_default.ensures
     ∙ sym (find_more c.args.name.now c.args.words.now c.loop-word.word-index _ c.loop-word-test.true)
     ∙ c.loop-word.invariant
 

@@ -4,5 +4,5 @@ use Rattle.place_spool.proofs.memory.length_at.Goals as goal
 
 pub returns : goal.returns
 returns c =
-    c.held-length.ensures
-    ∙ ap length (sym (part_at c.args.memory.now c.args.place c.cell-start-start.result c.requires c.cell-start-start.ensures.start))
+    c.held_length.ensures
+    ∙ ap length (sym (part_at c.args.memory.now c.args.place c.cell_start-start.result c.requires c.cell_start-start.ensures.start))

@@ -8,9 +8,9 @@ pub returns : goal.returns
 returns c =
     let sheet = c.args.sheet.now in
     let code = c.args.code in
-    let e = sym c.first-text.ensures in
+    let e = sym c.first_text.ensures in
     record {
-      value = c.first-text.ensures;
+      value = c.first_text.ensures;
       first = subst (First sheet code 0) e (first_is sheet code);
       placed = subst (λ o. IfSome o (PartOf sheet)) e (line_part sheet code);
     }

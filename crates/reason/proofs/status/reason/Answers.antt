@@ -7,7 +7,7 @@ returns c =
     let rec = c.args.rec.now in
     let sheet = c.args.sheet.now in
     record {
-      value = c.find-reason.ensures;
-      reasoned = told_made rec sheet (OfStatus rec sheet) (of_status_lem rec sheet) _ c.find-reason.ensures;
-      placed = told_made rec sheet (Within rec sheet) (within rec sheet) _ c.find-reason.ensures;
+      value = c.find_reason.ensures;
+      reasoned = told_made rec sheet (OfStatus rec sheet) (of_status_lem rec sheet) _ c.find_reason.ensures;
+      placed = told_made rec sheet (Within rec sheet) (within rec sheet) _ c.find_reason.ensures;
     }

@@ -16,7 +16,7 @@ pub returns-in-Some : goal.returns-in-Some
 returns-in-Some c = turn c.args.time c.loop-i.i c.args.standings.now _ (omega arith) c.loop-i.invariant c.in-Some.ensures
 
 pub loop-i-preserved : goal.loop-i-preserved
-loop-i-preserved c = turn c.args.time c.loop-i.i c.args.standings.now _ (omega arith) c.loop-i.invariant c.in-default.ensures
+loop-i-preserved c = turn c.args.time c.loop-i.i c.args.standings.now _ (omega arith) c.loop-i.invariant c.in_default.ensures
 
 pub returns : goal.returns
 returns c =

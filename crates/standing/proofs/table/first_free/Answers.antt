@@ -25,7 +25,7 @@ pub loop-i-preserved : goal.loop-i-preserved
 loop-i-preserved c =
     let i = c.loop-i.i in
     let xs = c.args.standings.now in
-    passes i (get_or xs i Free) (first_free (i + 1) (drop (i + 1) xs)) c.in-default.not-Free ∙ turn i xs (omega arith) c.loop-i.invariant
+    passes i (get_or xs i Free) (first_free (i + 1) (drop (i + 1) xs)) c.in_default.not-Free ∙ turn i xs (omega arith) c.loop-i.invariant
 
 pub returns : goal.returns
 returns c = sym (at_drop_all (first_free c.loop-i.i) c.args.standings.now c.loop-i.i (omega arith)) ∙ c.loop-i.invariant

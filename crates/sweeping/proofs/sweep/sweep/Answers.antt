@@ -7,5 +7,5 @@ use Rattle.sweeping.proofs.sweep.sweep.Goals as goal
 pub returns : goal.returns
 returns g c =
     let s = timed (view g.S.Spool.held c.args.relay.now) c.args.clock in
-    let e = c.sweep-one.ensures.answer in
-    record { answer = e; state = c.sweep-one.ensures.state; lowest-due = λ table. subst (LowestDue s.time s.standings) (sym e) (lowest s table) }
+    let e = c.sweep_one.ensures.answer in
+    record { answer = e; state = c.sweep_one.ensures.state; lowest-due = λ table. subst (LowestDue s.time s.standings) (sym e) (lowest s table) }

@@ -2,8 +2,8 @@ use Rattle.std.proofs.Common.{[], length, ap, arith}
 use Rattle.tray.proofs.Slotted.{slots_at}
 use Rattle.tray.proofs.slots.copy_from.Goals as goal
 
-pub copy-to-requires : goal.copy-to-requires
-copy-to-requires c =
+pub copy_to-requires : goal.copy_to-requires
+copy_to-requires c =
     omega (arith, ap length (slots_at c.args.slots.now c.args.i (record { len = 0; bytes = [] }) c.requires.0 c.requires.1.0))
 
 pub returns : goal.returns

@@ -6,5 +6,5 @@ use Rattle.writing.proofs.buffer.put_field.Goals as goal
 pub returns : goal.returns
 returns c = record {
   end = search rules;
-  after = put_twice c.args.at _ (le16 (length c.args.bytes.now)) c.args.bytes.now c.args.buf.now _ _ (omega arith) c.put-u16-from.ensures.end c.put-u16-from.ensures.after c.put.ensures.after;
+  after = put_twice c.args.at _ (le16 (length c.args.bytes.now)) c.args.bytes.now c.args.buf.now _ _ (omega arith) c.put_u16-from.ensures.end c.put_u16-from.ensures.after c.put.ensures.after;
 }

@@ -3,6 +3,6 @@ use Rattle.client_rows.proofs.white_list.WhiteListRow.new.Goals as goal
 
 pub returns : goal.returns
 returns c = record {
-  value = c.row-of.ensures;
-  parts = white_list_parts c.args.fingerprint c.args.neighbour c.args.class c.args.until c.args.address _ c.row-of.ensures;
+  value = c.row_of.ensures;
+  parts = white_list_parts c.args.fingerprint c.args.neighbour c.args.class c.args.until c.args.address _ c.row_of.ensures;
 }

@@ -3,6 +3,6 @@ use Rattle.message_rows.proofs.message.MessageRow.new.Goals as goal
 
 pub returns : goal.returns
 returns c = record {
-  value = c.row-of.ensures;
-  parts = message_parts c.args.fr.now c.args.on.now c.args.kept _ c.row-of.ensures;
+  value = c.row_of.ensures;
+  parts = message_parts c.args.fr.now c.args.on.now c.args.kept _ c.row_of.ensures;
 }

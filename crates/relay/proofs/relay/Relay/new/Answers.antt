@@ -11,5 +11,5 @@ returns g c =
       given = u.given i;
       address = ap address_text u.address i;
       standings = u.standings i;
-      places = (ap g.S.Spool.held u.spool ∙ c.clear-all.ensures) i;
+      places = (ap g.S.Spool.held u.spool ∙ c.clear_all.ensures) i;
     }
