@@ -11,7 +11,7 @@ returns-in-None c = sym c.loop-i.invariant ∙ hex_stop _ c.args.text.now c.loop
 
 pub loop-i-preserved : goal.loop-i-preserved
 loop-i-preserved c =
-    ap (λ (o : List ℕ). joined_to o (hex_of (drop (2 * (c.loop-i.i + 1)) c.args.text.now))) c.in_ok-push.ensures.items
+    ap (λ (o : List ℕ). joined_to o (hex_of (drop (2 * (c.loop-i.i + 1)) c.args.text.now))) c.in_ok-push-in-Some.ensures.items
     ∙ sym (hex_more _ c.args.text.now c.loop-i.i _ (omega arith) c.in-Some.ensures)
     ∙ c.loop-i.invariant
 

@@ -6,7 +6,7 @@ use Rattle.digits.proofs.hex.push_each.Goals as goal
 
 pub returns-in_err-push_byte : goal.returns-in_err-push_byte
 returns-in_err-push_byte c =
-    MatchResult-from_err c.from-residual.result _ _ c.from-residual.ensures.0
+    MatchResult-from_err c.from_residual.result _ _ c.from_residual.ensures.0
     (λ _. still_first (vec_items c.args.out.now) _ _ (omega arith) (c.in_err-push_byte.ensures ∙ c.loop-b.invariant))
 
 pub loop-b-preserved : goal.loop-b-preserved
