@@ -1,5 +1,5 @@
 -- What a word stands for where a call wants a number, hex digits or a text.
-use Rattle.std.specs.Prelude.{ℕ, cond, List, [], take, drop, Some, None, Ok, Err, codes, Option, Result}
+use Rattle.std.specs.Prelude.{ℕ, cond, List, [], take, drop, Some, None, Ok, codes, Option, Result}
 use Rattle.std.specs.Str.{bytes_eq}
 use Rattle.std.specs.Option.{unwrap_or}
 use Rattle.digits.specs.Numbers.{number_of}
