@@ -1,5 +1,5 @@
 -- How a text stands in an answer.
-use Rattle.std.specs.Prelude.{ℕ, Bool, true, false, cond, not, ◌&&◌, List, [], ◌∷◌, length, is_some, codes, decimal, ◌==◌, nat_le}
+use Rattle.std.specs.Prelude.{ℕ, Bool, true, cond, not, ◌&&◌, List, [], ◌∷◌, length, is_some, codes, decimal, ◌==◌, nat_le}
 use Rattle.arguments.specs.Values.{after_mark}
 use Rattle.digits.specs.Hexes.{hex_text}
 

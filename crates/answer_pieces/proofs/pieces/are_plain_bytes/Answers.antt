@@ -1,6 +1,6 @@
-use Rattle.std.proofs.Common.{◌≡◌, ◌+◌, ◌&&◌, get_or, drop, sym, ap, ◌∙◌}
+use Rattle.std.proofs.Common.{◌+◌, ◌&&◌, drop, sym, ap, ◌∙◌}
 use Rattle.std.proofs.lemmas.List.{at_drop_more, at_drop_all}
-use Rattle.answer_pieces.specs.Texts.{plain_byte, plain_bytes}
+use Rattle.answer_pieces.specs.Texts.{plain_bytes}
 use Rattle.answer_pieces.proofs.pieces.are_plain_bytes.Goals as goal
 
 pub returns-then-not-is_plain_byte : goal.returns-then-not-is_plain_byte
