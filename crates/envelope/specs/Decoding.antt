@@ -1,5 +1,5 @@
 -- What reading a record answers, and how an answer in the program is told as one.
-use Rattle.std.specs.Prelude.{ℕ, Bool, cond, List, [], Ok, Err, Result}
+use Rattle.std.specs.Prelude.{ℕ, cond, List, [], Ok, Err, Result}
 use Rattle.text.specs.Said.{Said, says}
 pub use Rattle.envelope.specs.Results.{viewed, and_then, unless}
 use Rattle.envelope.specs.Integers.{u16_at}

@@ -1,5 +1,5 @@
 -- What the case of an enum says to the outside: the number that stands for it, and the values that it carries, in order.
-use Rattle.std.specs.Prelude.{ℕ, List, []}
+use Rattle.std.specs.Prelude.{ℕ, List}
 
 pub record Said : Type 0 where
   pub number : ℕ

@@ -1,4 +1,4 @@
-use Rattle.std.proofs.Common.{◌&&◌, leb, sym, arith}
+use Rattle.std.proofs.Common.{◌&&◌, leb, arith}
 use Rattle.std.proofs.lemmas.Bool.Decides.{nat_tests}
 use Rattle.text.proofs.Scan.{all_more, all_stop, all_end}
 use Rattle.text.proofs.forms.is_within.Goals as goal
