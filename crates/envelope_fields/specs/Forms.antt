@@ -1,5 +1,5 @@
 -- The fields that have a form, as rows of a table: each with the offset where it starts once it is written.
-use Rattle.std.specs.Prelude.{◌≡◌, ℕ, ◌+◌, ◌≤◌, List, [], ◌∷◌, ◌++◌, length, nat_le}
+use Rattle.std.specs.Prelude.{◌≡◌, ◌+◌, ◌≤◌, List, [], ◌∷◌, ◌++◌, length, nat_le}
 use Rattle.text.specs.Forms.{is_address, is_dataflow, is_operation_number, is_contacts}
 use Rattle.envelope.specs.Limits.{timeout_ok, code_ok}
 use Rattle.envelope.specs.Layout.{Row, row}

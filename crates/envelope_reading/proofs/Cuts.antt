@@ -1,5 +1,5 @@
 -- What the fields that were cut from a record tell.
-use Rattle.std.proofs.Common.{◌≡◌, ℕ, ◌-◌, Bool, true, false, cond, List, length, get_or, take, drop, None, Ok, Err, Result, sym, refl, ap, ◌∙◌, subst, arith}
+use Rattle.std.proofs.Common.{◌≡◌, ℕ, ◌-◌, true, List, length, get_or, take, drop, None, Ok, Result, sym, ap, ◌∙◌, subst}
 use Rattle.std.proofs.lemmas.List.{take_rest}
 use Rattle.text.specs.Forms.{is_address, is_dataflow, is_contacts}
 use Rattle.text.specs.Said.{Said}

@@ -1,17 +1,17 @@
 -- What holds of a record that reads well.
-use Rattle.std.proofs.Common.{◌≡◌, ℕ, ◌+◌, ◌≤◌, Bool, true, false, cond, ◌&&◌, eqb, leb, List, length, take, drop, IfOk, None, Ok, Err, Result, sym, refl, ap, ◌∙◌, subst, arith}
+use Rattle.std.proofs.Common.{◌≡◌, ℕ, ◌+◌, ◌≤◌, Bool, true, List, length, take, drop, IfOk, None, Ok, Err, Result, sym, refl, ap, ◌∙◌, subst, arith}
 use Rattle.std.proofs.lemmas.List.{length-take-le, length-drop, take_all}
-use Rattle.std.proofs.lemmas.Bool.{and_parts, leb-true, eqb-true}
+use Rattle.std.proofs.lemmas.Bool.{and_parts, leb-true}
 use Rattle.std.proofs.lemmas.Bool.Decides.{nat_tests}
 use Rattle.text.specs.Forms.{is_address, is_dataflow, is_operation_number, is_contacts}
 use Rattle.text.specs.Said.{Said}
 use Rattle.envelope.specs.declared.parts.Envelope.{Envelope}
 use Rattle.envelope.specs.declared.fault.RecordFault.{RecordFault}
 use Rattle.envelope.specs.Integers.{u16_at, u32_at}
-use Rattle.envelope.specs.Limits.{length_ok, kind_ok, code_ok, timeout_ok}
-use Rattle.envelope.specs.Views.{Seen, Whole, whole, held}
+use Rattle.envelope.specs.Limits.{length_ok, kind_ok, timeout_ok}
+use Rattle.envelope.specs.Views.{Whole, whole, held}
 use Rattle.envelope.specs.Layout.{next, seen_at, fits_at, field_ok, ad_at, df_at, ct_at, rest_at, on_in, rows, first_broken, fields}
-use Rattle.envelope.specs.Results.{and_then, unless}
+use Rattle.envelope.specs.Results.{unless}
 use Rattle.envelope.specs.Decoding.{decode_kind, decode, told}
 use Rattle.envelope.specs.Lawful.{Lawful, Sized, PartOf, Placed}
 use Rattle.envelope.proofs.Oks.{ok_cond, ok_then, unless_ok}

@@ -6,12 +6,12 @@ use Rattle.envelope_reading.proofs.reading.parse.Goals as goal
 
 pub returns-in_err-check_fixed : goal.returns-in_err-check_fixed
 returns-in_err-check_fixed c =
-    let p = err_from_is_err_and c.from-residual-in_err-check_fixed.result c.from-residual-in_err-check_fixed.ensures.1 in
+    let p = err_from_is_err_and c.from_residual-in_err-check_fixed.result c.from_residual-in_err-check_fixed.ensures.1 in
     rw (p.1, p.2) (fixed_broken c.args.rec.now _ c.in_ok-kind.ensures.value _ c.in_err-check_fixed.ensures)
 
 pub returns-in_err-parts : goal.returns-in_err-parts
 returns-in_err-parts c =
-    let p = err_from_is_err_and c.from-residual-in_err-parts.result c.from-residual-in_err-parts.ensures.1 in
+    let p = err_from_is_err_and c.from_residual-in_err-parts.result c.from_residual-in_err-parts.ensures.1 in
     rw (p.1, p.2) (moving_broken c.args.rec.now _ c.in_ok-kind.ensures.value c.in_ok-check_fixed.ensures _ c.in_err-parts.ensures)
 
 pub returns-in-Message : goal.returns-in-Message

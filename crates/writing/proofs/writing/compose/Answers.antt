@@ -7,7 +7,7 @@ use Rattle.writing.proofs.writing.compose.Goals as goal
 pub returns-in_err-check : goal.returns-in_err-check
 returns-in_err-check c =
     let d = plain c.args.fields in
-    let p = err_from_is_err_and c.from-residual.result c.from-residual.ensures.1 in
+    let p = err_from_is_err_and c.from_residual.result c.from_residual.ensures.1 in
     let e = refused d (length c.args.buf.now) _ c.in_err-check.ensures.value in
     rw (p.1, p.2) (record { answer = e; after = by_answer d c.args.buf.now _ e })
 
