@@ -1,10 +1,10 @@
 -- Reading what was written gives the fields again, with their places.
-use Rattle.std.proofs.Common.{◌≡◌, ℕ, ◌+◌, ◌-◌, ◌*◌, ◌/◌, ◌%◌, ◌^◌, ◌<◌, ◌≤◌, Bool, true, ◌&&◌, eqb, leb, List, [], ◌∷◌, ◌++◌, length, get_or, take, drop, None, Ok, Err, Result, sym, refl, ap, ◌∙◌, subst, add-zero, arith, length-append, length-drop}
+use Rattle.std.proofs.Common.{◌≡◌, ℕ, ◌+◌, ◌-◌, ◌*◌, ◌/◌, ◌%◌, ◌^◌, ◌<◌, ◌≤◌, Bool, true, ◌&&◌, eqb, leb, List, [], ◌∷◌, ◌++◌, length, get_or, take, drop, None, Ok, Result, sym, refl, ap, ◌∙◌, subst, add-zero, arith, length-append, length-drop}
 use Rattle.std.proofs.lemmas.List.{drop-drop, get_or-drop, take_at, drop_at}
 use Rattle.std.proofs.lemmas.Bool.{le-leb, eq-eqb, and_from}
 use Rattle.std.proofs.lemmas.Bool.Decides.{nat_tests}
 use Rattle.text.specs.Forms.{is_address, is_dataflow, is_contacts, is_operation_number}
-use Rattle.text.specs.Said.{Said, says}
+use Rattle.text.specs.Said.{Said}
 use Rattle.envelope.specs.Integers.{u16_at, u32_at}
 use Rattle.envelope.specs.Limits.{timeout_ok, code_ok, length_ok, kind_ok}
 use Rattle.envelope.specs.Views.{Whole, whole}
@@ -14,7 +14,7 @@ use Rattle.envelope.specs.Results.{and_then, unless}
 use Rattle.envelope.specs.Decoding.{decode_kind, decode}
 use Rattle.envelope.proofs.Rows.{all_ok}
 use Rattle.envelope_fields.specs.Plain.{Plain}
-use Rattle.writing.specs.Encoding.{le16, le32, prefixed, size, encode}
+use Rattle.writing.specs.Encoding.{prefixed, size, encode}
 use Rattle.envelope_fields.specs.Forms.{rows, Measured}
 use Rattle.writing.specs.Trips.{placed}
 use Rattle.envelope_fields.proofs.Measures.{measured}

@@ -1,5 +1,5 @@
 -- The pieces of a record, written one after the other, are the record.
-use Rattle.std.proofs.Common.{◌≡◌, ℕ, List, [], ◌∷◌, ◌++◌, sym, refl, ap, ◌∙◌, append_assoc}
+use Rattle.std.proofs.Common.{◌≡◌, ℕ, List, [], ◌∷◌, ◌++◌, ◌∙◌, append_assoc}
 use Rattle.envelope_fields.specs.Plain.{Plain}
 use Rattle.writing.specs.Encoding.{le16, le32, prefixed, size, encode}
 

@@ -1,5 +1,5 @@
 -- What follows from the answer of writing and from what it leaves in the buffer.
-use Rattle.std.proofs.Common.{◌≡◌, ℕ, ◌+◌, ◌^◌, ◌<◌, ◌≤◌, Bool, true, false, cond, leb, List, [], ◌∷◌, length, take, drop, IfOk, None, Ok, Err, Result, sym, refl, ap, ◌∙◌, subst, arith, length-append, length-drop}
+use Rattle.std.proofs.Common.{◌≡◌, ℕ, ◌+◌, ◌^◌, ◌<◌, ◌≤◌, true, List, [], ◌∷◌, length, take, drop, IfOk, None, Ok, Err, Result, sym, refl, ap, ◌∙◌, subst, arith, length-append, length-drop}
 use Rattle.std.proofs.lemmas.List.{take_at}
 use Rattle.std.proofs.lemmas.Bool.{le-leb}
 use Rattle.std.proofs.lemmas.Bool.Decides.{nat_tests}
@@ -10,7 +10,7 @@ use Rattle.envelope.specs.Layout.{row, first_broken}
 use Rattle.envelope.specs.Results.{viewed, unless}
 use Rattle.envelope.specs.Decoding.{checked, decode}
 use Rattle.envelope.specs.Lawful.{Lawful, Placed}
-use Rattle.envelope_reading.proofs.Laws.{Laws, laws}
+use Rattle.envelope_reading.proofs.Laws.{laws}
 use Rattle.writing.specs.declared.fault.WriteFault.{WriteFault}
 use Rattle.envelope_fields.specs.declared.fields.Content.{Content}
 use Rattle.envelope_fields.specs.declared.fields.Content.TheVariants.{Message, Status}
@@ -20,10 +20,10 @@ use Rattle.writing.specs.Encoding.{size, encode}
 use Rattle.envelope_fields.specs.Forms.{rows}
 use Rattle.writing.specs.Refusals.{write_refusal}
 use Rattle.writing.specs.Answers.{told_write, write_answer, buffer_after}
-use Rattle.writing.specs.Trips.{Bytes, placed, ReadsBack, OwnBytes}
+use Rattle.writing.specs.Trips.{ReadsBack, OwnBytes}
 use Rattle.envelope_fields.proofs.Measures.{measured}
 use Rattle.writing.proofs.Sizes.{least_size, length-encode}
-use Rattle.writing.proofs.Roomy.{Wrote, wrote, by_answer, all_written}
+use Rattle.writing.proofs.Roomy.{wrote, by_answer, all_written}
 use Rattle.writing.proofs.Trips.{written_of_read}
 use Rattle.writing.proofs.Backs.{read_of_written}
 

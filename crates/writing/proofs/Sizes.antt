@@ -1,5 +1,5 @@
 -- The length of a record of fields that are in form.
-use Rattle.std.proofs.Common.{◌≡◌, ℕ, ◌≤◌, ◌++◌, length, None, arith, length-append}
+use Rattle.std.proofs.Common.{◌≡◌, ◌≤◌, ◌++◌, length, None, arith, length-append}
 use Rattle.std.proofs.lemmas.Bool.Decides.{nat_tests}
 use Rattle.envelope.specs.Layout.{first_broken}
 use Rattle.envelope.proofs.Rows.{all_ok}

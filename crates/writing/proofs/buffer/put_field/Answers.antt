@@ -1,4 +1,4 @@
-use Rattle.std.proofs.Common.{length, refl, arith, rules}
+use Rattle.std.proofs.Common.{length, arith, rules}
 use Rattle.writing.specs.Encoding.{le16}
 use Rattle.writing.proofs.Pastes.{put_twice}
 use Rattle.writing.proofs.buffer.put_field.Goals as goal

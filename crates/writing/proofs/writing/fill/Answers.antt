@@ -1,4 +1,4 @@
-use Rattle.std.proofs.Common.{◌≡◌, List, [], ◌∷◌, ◌++◌, length, sym, refl, ap, ◌∙◌, append_assoc, arith}
+use Rattle.std.proofs.Common.{[], ◌∷◌, refl, ap, ◌∙◌, arith}
 use Rattle.envelope_fields.specs.Plain.{plain}
 use Rattle.writing.specs.Buffers.{filled}
 use Rattle.writing.specs.Encoding.{le16, le32, prefixed}
