@@ -7,15 +7,15 @@ use crate::Spool;
 use crate::fault::SpoolFault;
 
 fn empty<S: Spool>(spool: &mut S, place: usize)
-    requires { place < length (held spool.old) }
-    ensures { held spool.new ≡ slice_set (held spool.old) place [] }
+    requires { place < length (S.held spool.old) }
+    ensures { S.held spool.new ≡ slice_set (S.held spool.old) place [] }
 {
     let _ = spool.clear(place);
 }
 
 // Empties every place.
 pub fn clear_all<S: Spool>(spool: &mut S)
-    ensures { held spool.new ≡ emptied (held spool.old) }
+    ensures { S.held spool.new ≡ emptied (S.held spool.old) }
 {
     let count = spool.count();
     for place in 0..count {
@@ -30,9 +30,9 @@ pub fn store_and_fetch<S: Spool>(
     bytes: &[u8],
     buf: &mut [u8],
 ) -> Result<usize, SpoolFault>
-    ensures answer { result ≡ return_answer place bytes.now buf.old (held spool.old) }
-    ensures buffer { buf.new ≡ returned place bytes.now buf.old (held spool.old) }
-    ensures after { held spool.new ≡ stored place bytes.now (held spool.old) }
+    ensures answer { result ≡ return_answer place bytes.now buf.old (S.held spool.old) }
+    ensures buffer { buf.new ≡ returned place bytes.now buf.old (S.held spool.old) }
+    ensures after { S.held spool.new ≡ stored place bytes.now (S.held spool.old) }
 {
     spool.store(place, bytes)?;
     spool.copy_out(place, buf)
@@ -44,8 +44,8 @@ pub fn copy_whole<S: Spool>(
     place: usize,
     buf: &mut [u8; 2048],
 ) -> Result<usize, SpoolFault>
-    ensures answer { result ≡ length_answer place (held spool.now) }
-    ensures after { buf.new ≡ copied place buf.old (held spool.now) }
+    ensures answer { result ≡ length_answer place (S.held spool.now) }
+    ensures after { buf.new ≡ copied place buf.old (S.held spool.now) }
 {
     spool.copy_out(place, buf)
 }
