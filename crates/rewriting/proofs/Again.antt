@@ -1,13 +1,12 @@
 -- A record that was read and written again.
-use Rattle.std.proofs.Common.{◌≡◌, ℕ, ◌≤◌, cond, List, length, is_ok, Ok, Err, Result, sym, refl, ap, ◌∙◌}
+use Rattle.std.proofs.Common.{◌≡◌, ℕ, List, length, Ok, Err, Result, sym, refl, ap, ◌∙◌}
 use Rattle.text.specs.Said.{Said}
 use Rattle.envelope.specs.Views.{Whole}
-use Rattle.envelope.specs.Results.{viewed, and_then}
+use Rattle.envelope.specs.Results.{and_then}
 use Rattle.envelope.specs.Decoding.{decode}
 use Rattle.rewriting.specs.declared.fault.RewriteFault.{RewriteFault}
 use Rattle.envelope_fields.specs.Plain.{plain_of}
 use Rattle.writing.specs.Buffers.{filled}
-use Rattle.writing.specs.Encoding.{encode}
 use Rattle.rewriting.specs.Refusals.{rewrite_refusal}
 use Rattle.writing.specs.Answers.{write_answer, buffer_after}
 use Rattle.writing.specs.Trips.{Bytes}
