@@ -1,5 +1,5 @@
 -- Worked figures, computed from the definitions that the contracts cite.
-use Rattle.std.specs.Prelude.{◌≡◌, ℕ, Bool, true, false, List, [], ◌∷◌, length, is_ok, Some, None, Ok, codes, Option, Result}
+use Rattle.std.specs.Prelude.{◌≡◌, ℕ, true, false, List, [], ◌∷◌, length, is_ok, Some, None, Ok, codes, Option, Result}
 use Rattle.text.specs.Forms.{is_address}
 use Rattle.text.specs.Said.{Said}
 use Rattle.text.specs.declared.fault.TextFault.{TextFault}
