@@ -1,5 +1,5 @@
 -- What the calls need to know of an envelope, apart from its bytes.
-use Rattle.std.specs.Prelude.{Bool, cond, ◌&&◌, ℕ, eqb, leb, ltb, length}
+use Rattle.std.specs.Prelude.{Bool, cond, ◌&&◌, eqb, leb, ltb, length}
 use Rattle.envelope.specs.Views.{Whole, Fields}
 use Rattle.envelope.specs.Life.{end_of}
 use Rattle.envelope.specs.declared.parts.Kind.{Kind}

@@ -1,5 +1,5 @@
 -- The relay as its calls see it: the time, the last try number given, its address, the standings, and what each place holds.
-use Rattle.std.specs.Prelude.{List, [], ℕ, max, length, replicate}
+use Rattle.std.specs.Prelude.{List, ℕ, max, replicate}
 use Rattle.text.specs.Addresses.{address_text}
 use Rattle.spool.specs.Uses.{emptied}
 use Rattle.standing.specs.declared.standing.Standing.{Standing}

@@ -45,7 +45,7 @@ fn unused<S: Spool>(address: Address, spool: S) -> Relay<S>
 impl<S: Spool> Relay<S> {
     // A relay at time 0 with every place cleared, whatever the spool held.
     pub fn new(address: Address, mut spool: S) -> Relay<S>
-        ensures { view held result ≡ fresh (address_text address) (held spool) }
+        ensures { view S.held result ≡ fresh (address_text address) (S.held spool) }
     {
         clear_all(&mut spool);
         unused(address, spool)
@@ -53,14 +53,14 @@ impl<S: Spool> Relay<S> {
 
     // Takes a clock reading: the relay's time never goes back.
     pub fn tick(&mut self, clock: u32)
-        ensures { view held self.new ≡ timed (view held self.old) clock }
+        ensures { view S.held self.new ≡ timed (view S.held self.old) clock }
     {
         self.time = self.time.max(clock);
     }
 
     // Puts an envelope into a place: in the inbox where its way is the local office, else waiting and due now.
     pub fn settle(&mut self, place: usize, way: Way, about: About, bytes: &[u8])
-        ensures { view held self.new ≡ settled (view held self.old) place way about bytes.now }
+        ensures { view S.held self.new ≡ settled (view S.held self.old) place way about bytes.now }
     {
         let _ = self.spool.store(place, bytes);
         match way {
@@ -71,7 +71,7 @@ impl<S: Spool> Relay<S> {
 
     // Empties a place in the spool, and frees it.
     pub fn discharge(&mut self, place: usize)
-        ensures { view held self.new ≡ discharged (view held self.old) place }
+        ensures { view S.held self.new ≡ discharged (view S.held self.old) place }
     {
         let _ = self.spool.clear(place);
         self.table.free(place);

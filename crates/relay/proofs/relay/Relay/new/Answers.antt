@@ -1,6 +1,5 @@
 use mathlib.Core.Path.{ap, ◌∙◌}
 use Rattle.text.specs.Addresses.{address_text}
-use Rattle.relay.specs.States.{State}
 use Rattle.relay.proofs.relay.Relay.new.Goals as goal
 
 pub returns : goal.returns
