@@ -1,8 +1,7 @@
 -- What is at the front of a buffer once a record was written there.
-use Rattle.std.proofs.Common.{◌≡◌, ℕ, cond, List, length, take, is_ok, IfOk, Some, None, Ok, Err, Option, Result, sym, refl, ap, ◌∙◌, subst}
+use Rattle.std.proofs.Common.{◌≡◌, ℕ, List, length, take, IfOk, Some, Ok, Option, Result, sym, ap, ◌∙◌, subst}
 use Rattle.text.specs.Said.{Said}
 use Rattle.envelope_fields.specs.Plain.{Plain}
-use Rattle.writing.specs.Encoding.{encode}
 use Rattle.writing.specs.Answers.{told_write, write_answer}
 use Rattle.writing.specs.Trips.{ReadsBack}
 use Rattle.writing.specs.declared.fault.WriteFault.{WriteFault}

@@ -1,5 +1,5 @@
 -- What is at the front of a buffer once a place was copied out to it.
-use Rattle.std.proofs.Common.{◌≡◌, ℕ, ◌≤◌, Bool, true, false, cond, ◌&&◌, ltb, leb, List, [], ◌++◌, length, get_or, take, drop, Ok, Err, Result, sym, refl, ap, ◌∙◌, arith, ltb-false, le-leb}
+use Rattle.std.proofs.Common.{◌≡◌, ℕ, ◌≤◌, Bool, true, false, cond, ◌&&◌, leb, List, [], length, take, drop, Ok, Err, Result, sym, refl, ap, ◌∙◌, arith, ltb-false, le-leb}
 use Rattle.std.proofs.lemmas.List.{take_at, get_or_past}
 use Rattle.spool.specs.declared.fault.SpoolFault.{SpoolFault}
 use Rattle.spool.specs.declared.fault.SpoolFault.TheVariants.{NoPlace}

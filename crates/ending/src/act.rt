@@ -39,8 +39,8 @@ pub struct Task {
 
 // Does it with the envelope at a place.
 pub fn perform<S: Spool>(relay: &mut Relay<S>, place: usize, task: Task) -> Done
-    ensures done { result ≡ done_as (view held relay.old) place task }
-    ensures state { view held relay.new ≡ performed (view held relay.old) place task }
+    ensures done { result ≡ done_as (view S.held relay.old) place task }
+    ensures state { view S.held relay.new ≡ performed (view S.held relay.old) place task }
 {
     let about = task.about;
     match task.act {

@@ -10,7 +10,7 @@ use standing::standing::About;
 // Where contacts want to hear of it the place becomes a notice; else it is dropped. Says whether it became a notice.
 pub(crate) fn double_fault<S: Spool>(relay: &mut Relay<S>, place: usize, about: About) -> bool
     ensures notified { result ≡ about.notify }
-    ensures state { view held relay.new ≡ double_fault (view held relay.old) place about }
+    ensures state { view S.held relay.new ≡ double_fault (view S.held relay.old) place about }
 {
     if about.notify {
         relay.table.become_notice(place, relay.time, about);

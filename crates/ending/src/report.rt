@@ -28,7 +28,7 @@ struct Written<'b> {
 
 // The bytes at a place; none where there is no such place.
 fn bytes_at<'b, S: Spool>(spool: &S, place: usize, buf: &'b mut [u8; 2048]) -> &'b [u8]
-    ensures { result.now ≡ at place (held spool.now) }
+    ensures { result.now ≡ at place (S.held spool.now) }
 {
     match copy_whole(spool, place, buf) {
         Ok(n) => &buf[0..n],
@@ -89,8 +89,8 @@ fn report_on<'a, 'b>(
 // The message at a place gives way to a status that goes this way back, and that tells of it by this code. A place that
 // holds no message is dropped instead. Says whether a report goes back.
 pub(crate) fn report<S: Spool>(relay: &mut Relay<S>, place: usize, code: u16, back: Way) -> bool
-    ensures reported { result ≡ is_reported (view held relay.old) place code }
-    ensures state { view held relay.new ≡ reported (view held relay.old) place code back }
+    ensures reported { result ≡ is_reported (view S.held relay.old) place code }
+    ensures state { view S.held relay.new ≡ reported (view S.held relay.old) place code back }
 {
     let mut message = [0; 2048];
     let mut status = [0; 2048];

@@ -37,7 +37,7 @@ fn delay_after(failed: u8) -> u64
 // One more try of the envelope that is out at a place has failed, after so many: it waits again. Tells until when.
 pub(crate) fn retry<S: Spool>(relay: &mut Relay<S>, place: usize, failed: u8) -> u64
     ensures due { result ≡ due_again relay.old.time failed }
-    ensures state { view held relay.new ≡ waits_again (view held relay.old) place failed }
+    ensures state { view S.held relay.new ≡ waits_again (view S.held relay.old) place failed }
 {
     let failed = one_more(failed);
     let due = relay.time as u64 + delay_after(failed);

@@ -1,4 +1,4 @@
-use Rattle.std.proofs.Common.{sym, ◌∙◌, arith, rules}
+use Rattle.std.proofs.Common.{sym, ◌∙◌, arith}
 use Rattle.ending.proofs.Fetched.{fetched, none_there}
 use Rattle.ending.proofs.report.bytes_at.Goals as goal
 

@@ -1,4 +1,4 @@
-use Rattle.std.proofs.Common.{◌≡◌, take, sym, ap, ◌∙◌, arith, rules}
+use Rattle.std.proofs.Common.{arith}
 use Rattle.envelope_fields.specs.Plain.{plain}
 use Rattle.ending.proofs.Encoded.{encoded}
 use Rattle.ending.proofs.report.encoded.Goals as goal
