@@ -1,6 +1,5 @@
 -- A message that was taken in and has not expired keeps its row in the ledger, and so is known again.
-use Rattle.std.proofs.Common.{◌≡◌, ℕ, zero, suc, ◌+◌, ◌<◌, ◌≤◌, Bool, true, false, cond, not, ◌&&◌, eqb, ltb, ◌≢◌, List, [], ◌∷◌, length, get_or, set, Some, None, Ok, Err, Option, Result, sym, refl, ap, ◌∙◌, subst, arith, length-set, get_or-set_other, get_or-set_same, lt-ltb, eqb-true, MatchOption}
-use borrow.Author.Tests.{eqb-false}
+use Rattle.std.proofs.Common.{◌≡◌, ℕ, zero, suc, ◌+◌, ◌<◌, ◌≤◌, Bool, true, false, cond, not, ◌&&◌, List, [], ◌∷◌, length, get_or, set, Some, None, Ok, Err, Option, Result, sym, refl, ap, ◌∙◌, subst, arith, length-set, get_or-set_other, get_or-set_same, lt-ltb}
 use Rattle.std.proofs.lemmas.Bool.{and_parts, and_from, le-leb}
 use Rattle.text.specs.Said.{Said}
 use Rattle.text.specs.Forms.{same_text}
@@ -11,10 +10,9 @@ use Rattle.ledger.specs.Kinds.{live, has_key, Equivalence}
 use Rattle.ledger.specs.Searches.{first_from, found, entered, place_for, or_else}
 use Rattle.ledger.specs.Changes.{put, rows_after_adding}
 use Rattle.ledger.proofs.Equivalences.{both, through}
-use Rattle.short_text.specs.ShortTexts.{kept_text, keeping, text_of, same_short_text, Holds}
-use Rattle.short_text.specs.declared.short_text.ShortText.{ShortText}
+use Rattle.short_text.specs.ShortTexts.{keeping, text_of, same_short_text}
 use Rattle.short_text.proofs.Held.{holds}
-use Rattle.message_rows.specs.Messages.{messages, message_filled, message_end, message_key, message_key_of, of_texts, freed_message, same_message}
+use Rattle.message_rows.specs.Messages.{messages, message_filled, message_end, message_key, message_key_of, freed_message, same_message}
 use Rattle.message_rows.specs.declared.message.MessageKey.{MessageKey}
 use Rattle.message_rows.specs.declared.message.MessageRow.{MessageRow}
 use Rattle.envelope_rows.proofs.Alike.{text_alike, short_text_alike}

@@ -8,7 +8,7 @@ use Rattle.relay.specs.States.{State}
 use Rattle.account.specs.Records.{is_message, is_status, alike, end_in}
 use Rattle.account.specs.Deeds.{Whereabouts}
 use Rattle.account.specs.Accounts.{Booked, Account, fresh, with_booked, with_counts, one_taken, book_taken_in}
-use Rattle.account.specs.Laws.{All, Any, Pairs, whereabouts, one, statuses_in}
+use Rattle.account.specs.Laws.{All, Any, Pairs, whereabouts, statuses_in}
 use Rattle.account.specs.Faith.{Matches, Listed, Sound, Related, Faithful}
 use Rattle.account.specs.Moves.{TookIn}
 use Rattle.account.proofs.Lists.{true_false, all_map}
@@ -17,7 +17,7 @@ use Rattle.account.proofs.Known.{empty_no_message, empty_no_status, message_no_s
 use Rattle.account.proofs.Alone.{message_there}
 use Rattle.account.proofs.Sums.{as_many, one_more, balance_kept, balance_taken}
 use Rattle.account.proofs.Places.{AllBut, all_but, sound_elsewhere}
-use Rattle.account.proofs.Moving.{changed, altered, unbooked}
+use Rattle.account.proofs.Moving.{altered, unbooked}
 
 at_or_before : (x t y : ℕ) → x ≡ t → y ≤ t → y ≤ x
 at_or_before x t y e h = omega arith

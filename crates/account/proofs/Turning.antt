@@ -10,7 +10,7 @@ use Rattle.relay.specs.States.{State}
 use Rattle.account.specs.Records.{is_message, is_status, end_in}
 use Rattle.account.specs.Deeds.{Whereabouts}
 use Rattle.account.specs.Accounts.{Booked, Account, change, at_place, turn}
-use Rattle.account.specs.Laws.{Balanced, whereabouts, one, statuses_in}
+use Rattle.account.specs.Laws.{Balanced, whereabouts, statuses_in}
 use Rattle.account.specs.Faith.{Describes, Matches, Sound, Faithful}
 use Rattle.account.specs.Moves.{Turned, Holds, about_in}
 use Rattle.account.proofs.Lists.{true_false, all_map, change_none}

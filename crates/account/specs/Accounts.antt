@@ -1,11 +1,9 @@
 -- The account: what an observer books of the calls and their answers, with nothing of the relay's inside.
 use Rattle.std.specs.Prelude.{ℕ, ◌+◌, max, Bool, cond, List, [], ◌∷◌, ◌==◌}
 use Rattle.std.specs.Str.{bytes_eq}
-use Rattle.envelope.specs.declared.parts.Kind.{Kind}
 use Rattle.envelope.specs.declared.parts.Kind.TheVariants.{Message, Status}
 use Rattle.account.specs.Records.{is_message}
 use Rattle.account.specs.Deeds.{Whereabouts, Deed}
-use Rattle.account.specs.Deeds.Whereabouts.{waiting, out, inbox}
 use Rattle.account.specs.Deeds.Deed.{nothing, taken_in, turned, passed_on, reported, collected, noticed, dropped}
 
 -- a message that was taken in: its record, when and where, where it is now unless it has ended, and how often it has ended

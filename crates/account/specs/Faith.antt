@@ -1,11 +1,11 @@
 -- What ties the relay and its message ledger to the account between calls. The laws follow from it.
-use Rattle.std.specs.Prelude.{◌≡◌, ℕ, ◌<◌, ◌≤◌, Bool, true, ◌&&◌, ◌⊎◌, List, [], length, Some, None, Ok, Option, Result, slice_index_or}
+use Rattle.std.specs.Prelude.{◌≡◌, ℕ, ◌<◌, ◌≤◌, true, ◌⊎◌, List, [], length, Some, Ok, Result, slice_index_or}
 use Rattle.text.specs.Said.{Said}
 use Rattle.text.specs.Forms.{is_address}
 use Rattle.envelope.specs.Views.{Whole}
 use Rattle.envelope.specs.Decoding.{decode}
 use Rattle.envelope.specs.declared.parts.Kind.TheVariants as kind
-use Rattle.message_rows.specs.Messages.{messages, message_filled, message_end, message_key, message_key_of, freed_message, same_message}
+use Rattle.message_rows.specs.Messages.{message_filled, message_end, message_key, message_key_of, freed_message, same_message}
 use Rattle.message_rows.specs.declared.message.MessageRow.{MessageRow}
 use Rattle.message_rows.specs.declared.message.MessageKey.{MessageKey}
 use Rattle.routing.specs.declared.row.Way.{Way}

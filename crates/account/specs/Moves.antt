@@ -1,5 +1,5 @@
 -- What a deed is, between the relay as the clock reading left it and the relay after the call.
-use Rattle.std.specs.Prelude.{◌≡◌, ℕ, ◌<◌, Bool, true, ◌⊎◌, List, [], length, set, Some, None, Ok, Option, Result, slice_set}
+use Rattle.std.specs.Prelude.{◌≡◌, ℕ, ◌<◌, true, ◌⊎◌, List, [], length, Some, None, Ok, Option, Result, slice_set}
 use Rattle.text.specs.Said.{Said}
 use Rattle.envelope.specs.Views.{Whole}
 use Rattle.envelope.specs.Decoding.{decode}
@@ -7,7 +7,6 @@ use Rattle.envelope.specs.declared.parts.Kind.{Kind}
 use Rattle.envelope.specs.declared.parts.Kind.TheVariants as kind
 use Rattle.ledger.specs.Searches.{found, place_for}
 use Rattle.ledger.specs.Changes.{rows_after_adding}
-use Rattle.ledger.specs.Kinds.{live}
 use Rattle.message_rows.specs.Messages.{messages, message_key_of, message_key}
 use Rattle.message_rows.specs.declared.message.MessageKey.{MessageKey}
 use Rattle.message_rows.specs.declared.message.MessageRow.{MessageRow}

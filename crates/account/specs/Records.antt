@@ -1,5 +1,5 @@
 -- What a record says that the laws speak of: its kind, its expiry, and which records are alike.
-use Rattle.std.specs.Prelude.{◌≡◌, ℕ, ◌+◌, Bool, false, ◌&&◌, List, Ok, Err, Result, ◌==◌}
+use Rattle.std.specs.Prelude.{ℕ, Bool, false, ◌&&◌, List, Ok, Err, Result, ◌==◌}
 use Rattle.text.specs.Said.{Said}
 use Rattle.text.specs.Forms.{same_text}
 use Rattle.envelope.specs.Views.{Whole}

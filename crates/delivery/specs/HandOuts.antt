@@ -1,5 +1,5 @@
 -- Handing out: what is told, and what it leaves.
-use Rattle.std.specs.Prelude.{◌≡◌, ℕ, ◌+◌, ◌≤◌, max, cond, List, Some, None, Ok, Err, Option, Result, ◌==◌}
+use Rattle.std.specs.Prelude.{◌≡◌, ℕ, ◌+◌, ◌≤◌, cond, List, Some, None, Ok, Err, Option, Result, ◌==◌}
 use Rattle.standing.specs.Standings.{standing_at, with_standing, out_under}
 use Rattle.searches.specs.Earliest.{earliest, Wants}
 use Rattle.searches.specs.declared.search.Found.{Found}

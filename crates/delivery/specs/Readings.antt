@@ -1,5 +1,5 @@
 -- Reading the record of a try: what is told, and what the buffer holds afterwards.
-use Rattle.std.specs.Prelude.{ℕ, Bool, true, false, cond, List, Ok, Err, Result, ◌==◌}
+use Rattle.std.specs.Prelude.{ℕ, Bool, false, cond, List, Ok, Err, Result, ◌==◌}
 use Rattle.spool.specs.Meaning.{copy_answer, copied}
 use Rattle.spool.specs.declared.fault.SpoolFault.{SpoolFault}
 use Rattle.standing.specs.Standings.{standing_at}

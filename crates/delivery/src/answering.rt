@@ -46,8 +46,8 @@ pub fn answer<S: Spool>(
     number: u32,
     outcome: Outcome,
 ) -> Result<Done, AnswerFault>
-    ensures answer { result ≡ answer_told (view held relay.old) clock place number outcome }
-    ensures state { view held relay.new ≡ answer_state (view held relay.old) clock place number outcome }
+    ensures answer { result ≡ answer_told (view S.held relay.old) clock place number outcome }
+    ensures state { view S.held relay.new ≡ answer_state (view S.held relay.old) clock place number outcome }
 {
     relay.tick(clock);
     match task_after(relay.table.at(place), number, reply_of(outcome)) {

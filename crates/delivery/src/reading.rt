@@ -26,9 +26,9 @@ pub fn read_out<S: Spool>(
     number: u32,
     buf: &mut [u8],
 ) -> Result<usize, ReadFault>
-    ensures answer { result ≡ read_answer (view held relay.old) place number buf.old }
-    ensures buffer { buf.new ≡ read_buffer (view held relay.old) place number buf.old }
-    ensures state { view held relay.new ≡ timed (view held relay.old) clock }
+    ensures answer { result ≡ read_answer (view S.held relay.old) place number buf.old }
+    ensures buffer { buf.new ≡ read_buffer (view S.held relay.old) place number buf.old }
+    ensures state { view S.held relay.new ≡ timed (view S.held relay.old) clock }
 {
     relay.tick(clock);
     if !is_out_under(relay.table.at(place), number) {

@@ -38,9 +38,9 @@ fn take<S: Spool>(
     found: Option<Found>,
     buf: &mut [u8],
 ) -> Result<Option<Given>, SpoolFault>
-    ensures answer { result ≡ taken_answer (view held relay.old) found buf.old }
-    ensures buffer { buf.new ≡ taken_buffer (view held relay.old) found buf.old }
-    ensures state { view held relay.new ≡ taken_state (view held relay.old) found buf.old }
+    ensures answer { result ≡ taken_answer (view S.held relay.old) found buf.old }
+    ensures buffer { buf.new ≡ taken_buffer (view S.held relay.old) found buf.old }
+    ensures state { view S.held relay.new ≡ taken_state (view S.held relay.old) found buf.old }
 {
     let Some(found) = found else {
         return Ok(None);
@@ -59,9 +59,9 @@ pub fn collect<S: Spool>(
     clock: u32,
     buf: &mut [u8],
 ) -> Result<Option<Given>, SpoolFault>
-    ensures answer { result ≡ oldest_answer Entry (view held relay.old) clock buf.old }
-    ensures buffer { buf.new ≡ oldest_buffer Entry (view held relay.old) clock buf.old }
-    ensures state { view held relay.new ≡ oldest_state Entry (view held relay.old) clock buf.old }
+    ensures answer { result ≡ oldest_answer Entry (view S.held relay.old) clock buf.old }
+    ensures buffer { buf.new ≡ oldest_buffer Entry (view S.held relay.old) clock buf.old }
+    ensures state { view S.held relay.new ≡ oldest_state Entry (view S.held relay.old) clock buf.old }
 {
     relay.tick(clock);
     let found = oldest_entry(&relay.table);
@@ -75,9 +75,9 @@ pub fn notice<S: Spool>(
     clock: u32,
     buf: &mut [u8],
 ) -> Result<Option<Given>, SpoolFault>
-    ensures answer { result ≡ oldest_answer Notified (view held relay.old) clock buf.old }
-    ensures buffer { buf.new ≡ oldest_buffer Notified (view held relay.old) clock buf.old }
-    ensures state { view held relay.new ≡ oldest_state Notified (view held relay.old) clock buf.old }
+    ensures answer { result ≡ oldest_answer Notified (view S.held relay.old) clock buf.old }
+    ensures buffer { buf.new ≡ oldest_buffer Notified (view S.held relay.old) clock buf.old }
+    ensures state { view S.held relay.new ≡ oldest_state Notified (view S.held relay.old) clock buf.old }
 {
     relay.tick(clock);
     let found = oldest_notice(&relay.table);

@@ -39,11 +39,11 @@ impl<S: Spool> Player<S> {
         messages: &mut [MessageRow],
         statuses: &mut [StatusRow],
     ) -> Player<S>
-        ensures state { view held result.relay ≡ fresh (address_text address) (held spool) }
+        ensures state { view S.held result.relay ≡ fresh (address_text address) (S.held spool) }
         ensures connections { result.connections.slots ≡ replicate 64 Closed }
         ensures messages { messages.new ≡ replicate (length messages.old) freed_message }
         ensures statuses { statuses.new ≡ replicate (length statuses.old) freed_status }
-        ensures begins_the_account { Agrees (account []) (world (view held result.relay) result.connections.slots messages.new statuses.new) }
+        ensures begins_the_account { Agrees (account []) (world (view S.held result.relay) result.connections.slots messages.new statuses.new) }
     {
         forget(messages, statuses);
         Player {

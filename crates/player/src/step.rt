@@ -34,7 +34,7 @@ fn admit<S: Spool>(
     fingerprint: [u8; 32],
     clients: &Ledger<WhiteListRow>,
 ) -> Told
-    ensures { (ms : List MessageRow) (ss : List StatusRow) (buf : List ℕ) → after (answer_of result) (world (view held player.new.relay) player.new.connections.slots ms ss) buf ≡ admitted (world (view held player.old.relay) player.old.connections.slots ms ss) clock connection fingerprint clients.now.rows.now buf }
+    ensures { (ms : List MessageRow) (ss : List StatusRow) (buf : List ℕ) → after (answer_of result) (world (view S.held player.new.relay) player.new.connections.slots ms ss) buf ≡ admitted (world (view S.held player.old.relay) player.old.connections.slots ms ss) clock connection fingerprint clients.now.rows.now buf }
 {
     if !player.connections.is_free(connection) {
         return Told::NoCall;
@@ -64,7 +64,7 @@ fn bring_on<S: Spool>(
     rec: &[u8],
     routes: &[RouteRow],
 ) -> Told
-    ensures { (buf : List ℕ) → after (answer_of result) (world (view held player.new.relay) player.new.connections.slots messages.new statuses.new) buf ≡ arrived (world (view held player.old.relay) player.old.connections.slots messages.old statuses.old) clock connection rec.now routes.now buf }
+    ensures { (buf : List ℕ) → after (answer_of result) (world (view S.held player.new.relay) player.new.connections.slots messages.new statuses.new) buf ≡ arrived (world (view S.held player.old.relay) player.old.connections.slots messages.old statuses.old) clock connection rec.now routes.now buf }
 {
     let mut messages = Ledger::new(messages);
     let mut statuses = Ledger::new(statuses);
@@ -92,14 +92,14 @@ fn bring<S: Spool>(
     rec: &[u8],
     routes: &[RouteRow],
 ) -> Told
-    ensures outcome { (buf : List ℕ) → after (answer_of result) (world (view held player.new.relay) player.new.connections.slots messages.new statuses.new) buf ≡ arrived (world (view held player.old.relay) player.old.connections.slots messages.old statuses.old) clock connection rec.now routes.now buf }
+    ensures outcome { (buf : List ℕ) → after (answer_of result) (world (view S.held player.new.relay) player.new.connections.slots messages.new statuses.new) buf ≡ arrived (world (view S.held player.old.relay) player.old.connections.slots messages.old statuses.old) clock connection rec.now routes.now buf }
     ensures in_range { InRange rec.now }
 {
     bring_on(player, messages, statuses, clock, connection, rec, routes)
 }
 
 fn close<S: Spool>(player: &mut Player<S>, connection: usize) -> Told
-    ensures { (ms : List MessageRow) (ss : List StatusRow) (buf : List ℕ) → after (answer_of result) (world (view held player.new.relay) player.new.connections.slots ms ss) buf ≡ closed (world (view held player.old.relay) player.old.connections.slots ms ss) connection buf }
+    ensures { (ms : List MessageRow) (ss : List StatusRow) (buf : List ℕ) → after (answer_of result) (world (view S.held player.new.relay) player.new.connections.slots ms ss) buf ≡ closed (world (view S.held player.old.relay) player.old.connections.slots ms ss) connection buf }
 {
     match player.connections.at(connection) {
         Some(_) => {
@@ -118,7 +118,7 @@ fn make<S: Spool>(
     call: Call<'_>,
     buf: &mut [u8],
 ) -> Told
-    ensures outcome { after (answer_of result) (world (view held player.new.relay) player.new.connections.slots messages.new statuses.new) buf.new ≡ stepped (world (view held player.old.relay) player.old.connections.slots messages.old statuses.old) call.entry buf.old }
+    ensures outcome { after (answer_of result) (world (view S.held player.new.relay) player.new.connections.slots messages.new statuses.new) buf.new ≡ stepped (world (view S.held player.old.relay) player.old.connections.slots messages.old statuses.old) call.entry buf.old }
     ensures brings { Brings call.entry }
 {
     match call {
@@ -163,9 +163,9 @@ pub fn step<S: Spool>(
     call: Call<'_>,
     buf: &mut [u8],
 ) -> Told
-    ensures outcome { after (answer_of result) (world (view held player.new.relay) player.new.connections.slots messages.new statuses.new) buf.new ≡ stepped (world (view held player.old.relay) player.old.connections.slots messages.old statuses.old) call.entry buf.old }
-    ensures account_goes_on { (log : List Event) → Agrees (account log) (world (view held player.old.relay) player.old.connections.slots messages.old statuses.old) → Agrees (account (log ++ (event call.entry (answer_of result) buf.new ∷ []))) (world (view held player.new.relay) player.new.connections.slots messages.new statuses.new) }
-    ensures no_request_lost_or_doubled { (log : List Event) → Agrees (account log) (world (view held player.old.relay) player.old.connections.slots messages.old statuses.old) → Laws (account (log ++ (event call.entry (answer_of result) buf.new ∷ []))) (view held player.new.relay) }
+    ensures outcome { after (answer_of result) (world (view S.held player.new.relay) player.new.connections.slots messages.new statuses.new) buf.new ≡ stepped (world (view S.held player.old.relay) player.old.connections.slots messages.old statuses.old) call.entry buf.old }
+    ensures account_goes_on { (log : List Event) → Agrees (account log) (world (view S.held player.old.relay) player.old.connections.slots messages.old statuses.old) → Agrees (account (log ++ (event call.entry (answer_of result) buf.new ∷ []))) (world (view S.held player.new.relay) player.new.connections.slots messages.new statuses.new) }
+    ensures no_request_lost_or_doubled { (log : List Event) → Agrees (account log) (world (view S.held player.old.relay) player.old.connections.slots messages.old statuses.old) → Laws (account (log ++ (event call.entry (answer_of result) buf.new ∷ []))) (view S.held player.new.relay) }
 {
     make(player, messages, statuses, call, buf)
 }

@@ -45,7 +45,7 @@ pub(crate) fn enter<'a, S: Spool>(
     entry: &mut Entry<'a>,
 )
     ensures brought { entry.new.call ≡ call.entry }
-    ensures account_goes_on { (log : List Event) → Agrees (account log) (world (view held player.old.relay) player.old.connections.slots messages.old statuses.old) → Agrees (account (log ++ (event_of entry.new ∷ []))) (world (view held player.new.relay) player.new.connections.slots messages.new statuses.new) }
+    ensures account_goes_on { (log : List Event) → Agrees (account log) (world (view S.held player.old.relay) player.old.connections.slots messages.old statuses.old) → Agrees (account (log ++ (event_of entry.new ∷ []))) (world (view S.held player.new.relay) player.new.connections.slots messages.new statuses.new) }
 {
     let room = room_of(call).min(PAGE);
     entry.call = call;

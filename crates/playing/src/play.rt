@@ -23,7 +23,7 @@ pub fn play<'a, S: Spool>(
     calls: &[Call<'a>],
     log: &mut [Entry<'a>],
 ) -> Result<Player<S>, S>
-    ensures played { MatchResult result (λ player. (map call_of (take (length calls.now) log.new) ≡ calls.now) × Laws (account (map event_of (take (length calls.now) log.new))) (view held player.relay)) (λ s. (s ≡ spool) × (length log.old < length calls.now) × (log.new ≡ log.old) × (messages.new ≡ messages.old) × (statuses.new ≡ statuses.old)) }
+    ensures played { MatchResult result (λ player. (map call_of (take (length calls.now) log.new) ≡ calls.now) × Laws (account (map event_of (take (length calls.now) log.new))) (view S.held player.relay)) (λ s. (s ≡ spool) × (length log.old < length calls.now) × (log.new ≡ log.old) × (messages.new ≡ messages.old) × (statuses.new ≡ statuses.old)) }
 {
     if log.len() < calls.len() {
         return Err(spool);

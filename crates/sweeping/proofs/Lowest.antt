@@ -1,18 +1,18 @@
 -- What a sweep did was due at its place, and nothing is due at a lower one.
-use Rattle.std.proofs.Common.{◌≡◌, ℕ, zero, suc, ◌+◌, ◌<◌, max, Bool, true, false, cond, ltb, leb, List, [], ◌∷◌, length, get_or, Some, None, Option, sym, refl, ap, ◌∙◌, subst, arith, lt-ltb}
+use Rattle.std.proofs.Common.{◌≡◌, ℕ, zero, suc, ◌+◌, ◌<◌, Bool, true, false, cond, leb, List, [], ◌∷◌, length, get_or, Some, None, Option, sym, refl, ap, ◌∙◌, subst, arith, lt-ltb}
 use Rattle.envelope.specs.declared.parts.Kind.{Kind}
 use Rattle.envelope.specs.declared.parts.Kind.TheVariants as kind
 use Rattle.standing.specs.Standings.{standing_at}
 use Rattle.searches.specs.Searches.{duty_at, duty_or, first_duty, ended}
 use Rattle.searches.specs.declared.search.Duty.{Duty}
-use Rattle.searches.specs.declared.search.Duty.TheVariants.{GiveUp, Expire, EndStatus}
+use Rattle.searches.specs.declared.search.Duty.TheVariants.{GiveUp}
 use Rattle.searches.specs.declared.search.Task as search
 use Rattle.standing.specs.declared.standing.About.{About}
 use Rattle.standing.specs.declared.standing.Standing.{Standing}
 use Rattle.standing.specs.declared.standing.Standing.TheVariants.{Free, Waiting, Out, Inbox, Notice}
-use Rattle.relay.specs.States.{State, timed}
+use Rattle.relay.specs.States.{State}
 use Rattle.ending.specs.declared.act.Task.{Task}
-use Rattle.sweeping.specs.Sweeps.{chore, swept_by, swept_at, lowest_duty, sweep_answer, LowestDue}
+use Rattle.sweeping.specs.Sweeps.{chore, swept_by, swept_at, lowest_duty, LowestDue}
 
 none_some : {A : Type 0} (x : A) → ◌≡◌ {A = Option A} None (Some x) → ⊥
 none_some x e = let z : ◌≡◌ {A = ℕ} 0 1 = cc in omega arith

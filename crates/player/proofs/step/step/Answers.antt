@@ -8,6 +8,6 @@ returns g c =
     let b = c.make.ensures.brings in
     record {
       outcome = e;
-      account-goes-on = λ log h. longer log _ _ _ _ _ _ e b h;
-      no-request-lost-or-doubled = λ log h. laws_hold _ _ (longer log _ _ _ _ _ _ e b h);
+      account_goes_on = λ log h. longer log _ _ _ _ _ _ e b h;
+      no_request_lost_or_doubled = λ log h. laws_hold _ _ (longer log _ _ _ _ _ _ e b h);
     }

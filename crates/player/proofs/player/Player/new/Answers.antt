@@ -12,5 +12,5 @@ returns g c =
       connections = c.new-2.ensures;
       messages = c.forget.ensures.messages;
       statuses = c.forget.ensures.statuses;
-      begins-the-account = agrees_at_first _ _ _ _ _ _ e c.args.address.form (g.S.Spool.few c.args.spool);
+      begins_the_account = agrees_at_first _ _ _ _ _ _ e c.args.address.form (g.S.Spool.few c.args.spool);
     }
