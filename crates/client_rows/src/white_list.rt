@@ -1,10 +1,9 @@
 // White-list rows: which clients may connect, and until when.
-ghost use Rattle.std.specs.Prelude.{◌≡◌, IfSome};
+ghost use Rattle.std.specs.Prelude.{◌≡◌, IfSome, refl};
 ghost use Rattle.client_rows.specs.WhiteLists.{white_list_kind, white_list_row, WhiteListParts};
 ghost use Rattle.std.specs.Str.{bytes_eq};
 ghost use Rattle.std.proofs.lemmas.Slice.Eq.{bytes_eq-Decides};
 ghost use Rattle.ledger.proofs.Equivalences.{by_image};
-ghost use Rattle.std.proofs.Common.{rules};
 
 use crate::client::{Client, nameless};
 use crate::fingerprint::is_same_fingerprint;
@@ -60,7 +59,7 @@ impl Row for WhiteListRow {
 
     ghost alike = { by_image bytes_eq (λ f. f) bytes_eq-Decides };
 
-    ghost empty = { Prim.search rules };
+    ghost empty = { refl };
 
     fn is_filled(&self) -> bool {
         self.used && self.client.is_lawful()

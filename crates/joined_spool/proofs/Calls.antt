@@ -4,7 +4,7 @@ use Rattle.std.proofs.lemmas.Bool.{ltb-true, and_parts}
 use Rattle.spool.specs.declared.fault.SpoolFault.{SpoolFault}
 use Rattle.spool.specs.declared.fault.SpoolFault.TheVariants.{NoPlace, Unstorable, ShortBuffer}
 use Rattle.spool.specs.Meaning.{is_place, at, storable, over_front, length_answer, store_answer, stored, clear_answer, cleared, copy_answer, copied}
-use Rattle.joined_spool.specs.Joins.{joined, answer_in_lem, first_after, second_after}
+use Rattle.joined_spool.specs.Joins.{joined, answer_in, first_after, second_after}
 use Rattle.joined_spool.proofs.Lies.{answer_in_lem, after_in}
 
 -- what reads a place by its test and its bytes
@@ -13,7 +13,7 @@ by_test F t true x y e s n = ap (λ b. F b x) e ∙ ap (F true) (s refl)
 by_test F t false x y e s n = ap (λ b. F b x) e ∙ n
 
 reads : {X : Type 0} (F : Bool → List ℕ → X) (past : X) → ((x : List ℕ) → F false x ≡ past)
-    → (a b : List (List ℕ)) (p : ℕ) (r : X) → length a ≤ 256 → r ≡ answer_in_lem (λ q m. F (is_place q m) (at q m)) past p a b
+    → (a b : List (List ℕ)) (p : ℕ) (r : X) → length a ≤ 256 → r ≡ answer_in (λ q m. F (is_place q m) (at q m)) past p a b
     → r ≡ F (is_place p (joined a b)) (at p (joined a b))
 reads F past none a b p r few e =
     e
@@ -41,11 +41,11 @@ writes F none some bs a b p x y few ex ey =
     (λ k. ap (λ t. cond (F t) (set (joined a b) p bs) (joined a b)) k ∙ ap (λ t. cond t (set (joined a b) p bs) (joined a b)) none)
 
 pub length_in : (a b : List (List ℕ)) (p : ℕ) (r : Result ℕ SpoolFault) → length a ≤ 256
-    → r ≡ answer_in_lem length_answer (Err NoPlace) p a b → r ≡ length_answer p (joined a b)
+    → r ≡ answer_in length_answer (Err NoPlace) p a b → r ≡ length_answer p (joined a b)
 length_in = reads (λ t x. cond t (Ok (length x)) (Err NoPlace)) (Err NoPlace) (λ _. refl)
 
 pub store_in : (bs : List ℕ) (a b : List (List ℕ)) (p : ℕ) (r : Result (Unit {0}) SpoolFault) → length a ≤ 256
-    → r ≡ answer_in_lem (λ q. store_answer q bs) (Err NoPlace) p a b → r ≡ store_answer p bs (joined a b)
+    → r ≡ answer_in (λ q. store_answer q bs) (Err NoPlace) p a b → r ≡ store_answer p bs (joined a b)
 store_in bs = reads (λ t _. cond t (cond (storable (length bs)) (Ok tt) (Err Unstorable)) (Err NoPlace)) (Err NoPlace) (λ _. refl)
 
 pub stored_in : (bs : List ℕ) (a b : List (List ℕ)) (p : ℕ) (x y : List (List ℕ)) → length a ≤ 256
@@ -53,7 +53,7 @@ pub stored_in : (bs : List ℕ) (a b : List (List ℕ)) (p : ℕ) (x y : List (L
 stored_in bs = writes (λ t. t && storable (length bs)) refl (λ t k. (and_parts t (storable (length bs)) k).0) bs
 
 pub clear_in : (a b : List (List ℕ)) (p : ℕ) (r : Result (Unit {0}) SpoolFault) → length a ≤ 256
-    → r ≡ answer_in_lem clear_answer (Err NoPlace) p a b → r ≡ clear_answer p (joined a b)
+    → r ≡ answer_in clear_answer (Err NoPlace) p a b → r ≡ clear_answer p (joined a b)
 clear_in = reads (λ t _. cond t (Ok tt) (Err NoPlace)) (Err NoPlace) (λ _. refl)
 
 pub cleared_in : (a b : List (List ℕ)) (p : ℕ) (x y : List (List ℕ)) → length a ≤ 256
@@ -61,10 +61,10 @@ pub cleared_in : (a b : List (List ℕ)) (p : ℕ) (x y : List (List ℕ)) → l
 cleared_in = writes (λ t. t) refl (λ t k. k) []
 
 pub copy_in : (buf : List ℕ) (a b : List (List ℕ)) (p : ℕ) (r : Result ℕ SpoolFault) → length a ≤ 256
-    → r ≡ answer_in_lem (λ q. copy_answer q buf) (Err NoPlace) p a b → r ≡ copy_answer p buf (joined a b)
+    → r ≡ answer_in (λ q. copy_answer q buf) (Err NoPlace) p a b → r ≡ copy_answer p buf (joined a b)
 copy_in buf =
     reads (λ t x. cond t (cond (leb (length x) (length buf)) (Ok (length x)) (Err ShortBuffer)) (Err NoPlace)) (Err NoPlace) (λ _. refl)
 
 pub copied_in : (buf : List ℕ) (a b : List (List ℕ)) (p : ℕ) (r : List ℕ) → length a ≤ 256
-    → r ≡ answer_in_lem (λ q. copied q buf) buf p a b → r ≡ copied p buf (joined a b)
+    → r ≡ answer_in (λ q. copied q buf) buf p a b → r ≡ copied p buf (joined a b)
 copied_in buf = reads (λ t x. cond (t && leb (length x) (length buf)) (over_front x buf) buf) buf (λ _. refl)

@@ -4,7 +4,7 @@ use lib.Seq.{take-set-lt}
 use Rattle.std.proofs.lemmas.List.{get_or-take, get_or_append_left, get_or-append_right, set-append_left, set-append_right}
 use Rattle.std.proofs.lemmas.Bool.{lt-ltb, le-ltb, cases_lt, cond-true, cond-false}
 use Rattle.spool.specs.Meaning.{is_place, at}
-use Rattle.joined_spool.specs.Joins.{joined, answer_in_lem, first_after, second_after, joined_count, joined_few}
+use Rattle.joined_spool.specs.Joins.{joined, answer_in, first_after, second_after, joined_count, joined_few}
 
 same_test : (p m q n : ℕ) → (p < m → q < n) → (q < n → p < m) → ltb p m ≡ ltb q n
 same_test p m q n f h =
@@ -48,7 +48,7 @@ past_all a b p h = le-ltb p (length (joined a b)) (omega (arith, joined_few a b)
 pub answer_in_lem : {X : Type 0} (call : ℕ → List (List ℕ) → X) (past : X) (a b : List (List ℕ)) (p : ℕ) → length a ≤ 256
     → ((m : List (List ℕ)) (q : ℕ) (j : List (List ℕ) → List (List ℕ)) → Lies a b p m q j → call p (joined a b) ≡ call q m)
     → (is_place p (joined a b) ≡ false → call p (joined a b) ≡ past)
-    → answer_in_lem call past p a b ≡ call p (joined a b)
+    → answer_in call past p a b ≡ call p (joined a b)
 answer_in_lem call past a b p few lies none =
     elim (cases_lt p (length a)) [
       | inl l ↦ cond-true _ _ _ (lt-ltb p (length a) l) ∙ sym (lies a p (λ x. joined x b) (in_first a b p few l))

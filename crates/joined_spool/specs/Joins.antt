@@ -9,8 +9,8 @@ joined a b = take 256 (a ++ b)
 
 -- what the part answers that the place falls in: the first at p, or the second at p less the first's places; `past` at
 -- a place past the last that a spool may have
-abbrev pub answer_in_lem : {X : Type 0} → (ℕ → List (List ℕ) → X) → X → ℕ → List (List ℕ) → List (List ℕ) → X
-answer_in_lem call past p a b = cond (nat_lt p (length a)) (call p a) (cond (nat_lt p 256) (call (p - length a) b) past)
+abbrev pub answer_in : {X : Type 0} → (ℕ → List (List ℕ) → X) → X → ℕ → List (List ℕ) → List (List ℕ) → X
+answer_in call past p a b = cond (nat_lt p (length a)) (call p a) (cond (nat_lt p 256) (call (p - length a) b) past)
 
 -- what each part holds after a change at the place
 abbrev pub first_after : (ℕ → List (List ℕ) → List (List ℕ)) → ℕ → List (List ℕ) → List (List ℕ)

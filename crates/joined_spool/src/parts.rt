@@ -3,7 +3,7 @@
 ghost use Rattle.std.specs.Prelude.{◌≡◌, Err};
 ghost use Rattle.spool.specs.declared.fault.SpoolFault.TheVariants.{NoPlace};
 ghost use Rattle.spool.specs.Meaning.{length_answer, store_answer, stored, clear_answer, cleared, copy_answer, copied};
-ghost use Rattle.joined_spool.specs.Joins.{count_in, answer_in_lem, first_after, second_after};
+ghost use Rattle.joined_spool.specs.Joins.{count_in, answer_in, first_after, second_after};
 
 use crate::Joined;
 use spool::Spool;
@@ -18,7 +18,7 @@ impl<A: Spool, B: Spool> Joined<A, B> {
     }
 
     pub(crate) fn length_in_part(&self, place: usize) -> Result<usize, SpoolFault>
-        ensures { result ≡ answer_in_lem length_answer (Err NoPlace) place (A.Spool.held self.now.first) (B.Spool.held self.now.second) }
+        ensures { result ≡ answer_in length_answer (Err NoPlace) place (A.Spool.held self.now.first) (B.Spool.held self.now.second) }
     {
         let firsts = self.first.count();
         if place < firsts {
@@ -31,7 +31,7 @@ impl<A: Spool, B: Spool> Joined<A, B> {
     }
 
     pub(crate) fn store_in_part(&mut self, place: usize, bytes: &[u8]) -> Result<(), SpoolFault>
-        ensures answer { result ≡ answer_in_lem (λ q. store_answer q bytes.now) (Err NoPlace) place (A.Spool.held self.old.first) (B.Spool.held self.old.second) }
+        ensures answer { result ≡ answer_in (λ q. store_answer q bytes.now) (Err NoPlace) place (A.Spool.held self.old.first) (B.Spool.held self.old.second) }
         ensures first { A.Spool.held self.new.first ≡ first_after (λ q. stored q bytes.now) place (A.Spool.held self.old.first) }
         ensures second { B.Spool.held self.new.second ≡ second_after (λ q. stored q bytes.now) place (A.Spool.held self.old.first) (B.Spool.held self.old.second) }
     {
@@ -46,7 +46,7 @@ impl<A: Spool, B: Spool> Joined<A, B> {
     }
 
     pub(crate) fn clear_in_part(&mut self, place: usize) -> Result<(), SpoolFault>
-        ensures answer { result ≡ answer_in_lem clear_answer (Err NoPlace) place (A.Spool.held self.old.first) (B.Spool.held self.old.second) }
+        ensures answer { result ≡ answer_in clear_answer (Err NoPlace) place (A.Spool.held self.old.first) (B.Spool.held self.old.second) }
         ensures first { A.Spool.held self.new.first ≡ first_after cleared place (A.Spool.held self.old.first) }
         ensures second { B.Spool.held self.new.second ≡ second_after cleared place (A.Spool.held self.old.first) (B.Spool.held self.old.second) }
     {
@@ -61,8 +61,8 @@ impl<A: Spool, B: Spool> Joined<A, B> {
     }
 
     pub(crate) fn copy_out_of_part(&self, place: usize, buf: &mut [u8]) -> Result<usize, SpoolFault>
-        ensures answer { result ≡ answer_in_lem (λ q. copy_answer q buf.old) (Err NoPlace) place (A.Spool.held self.now.first) (B.Spool.held self.now.second) }
-        ensures after { buf.new ≡ answer_in_lem (λ q. copied q buf.old) buf.old place (A.Spool.held self.now.first) (B.Spool.held self.now.second) }
+        ensures answer { result ≡ answer_in (λ q. copy_answer q buf.old) (Err NoPlace) place (A.Spool.held self.now.first) (B.Spool.held self.now.second) }
+        ensures after { buf.new ≡ answer_in (λ q. copied q buf.old) buf.old place (A.Spool.held self.now.first) (B.Spool.held self.now.second) }
     {
         let firsts = self.first.count();
         if place < firsts {
