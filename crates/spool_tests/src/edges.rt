@@ -21,33 +21,41 @@ pub(crate) fn expect_kept<S: Spool>(
 }
 
 // The place is there, and empty.
-pub(crate) fn expect_empty<S: Spool>(spool: &S, place: usize) -> Result<(), Fail> {
+pub(crate) fn expect_empty<S: Spool>(rt: &impl Abort, spool: &S, place: usize) -> Result<(), Fail> {
     let mut buf = [7; 1];
-    assert_eq!(spool.length(place), Ok(0));
-    assert_eq!(spool.copy_out(place, &mut buf), Ok(0));
-    assert_eq!(buf[0], 7);
-    assert_eq!(spool.copy_out(place, &mut []), Ok(0));
+    assert_eq!(rt; spool.length(place), Ok(0));
+    assert_eq!(rt; spool.copy_out(place, &mut buf), Ok(0));
+    assert_eq!(rt; buf[0], 7);
+    assert_eq!(rt; spool.copy_out(place, &mut []), Ok(0));
     Ok(())
 }
 
 // There is no such place: each call says so first, whatever else is wrong with it.
-pub(crate) fn expect_no_place<S: Spool>(spool: &mut S, place: usize) -> Result<(), Fail> {
-    assert_eq!(spool.length(place), Err(SpoolFault::NoPlace));
-    assert_eq!(spool.store(place, b"a"), Err(SpoolFault::NoPlace));
-    assert_eq!(spool.store(place, b""), Err(SpoolFault::NoPlace));
-    assert_eq!(spool.clear(place), Err(SpoolFault::NoPlace));
-    assert_eq!(spool.copy_out(place, &mut []), Err(SpoolFault::NoPlace));
+pub(crate) fn expect_no_place<S: Spool>(
+    rt: &impl Abort,
+    spool: &mut S,
+    place: usize,
+) -> Result<(), Fail> {
+    assert_eq!(rt; spool.length(place), Err(SpoolFault::NoPlace));
+    assert_eq!(rt; spool.store(place, b"a"), Err(SpoolFault::NoPlace));
+    assert_eq!(rt; spool.store(place, b""), Err(SpoolFault::NoPlace));
+    assert_eq!(rt; spool.clear(place), Err(SpoolFault::NoPlace));
+    assert_eq!(rt; spool.copy_out(place, &mut []), Err(SpoolFault::NoPlace));
     Ok(())
 }
 
 // So many places, the first and the last of them empty.
-pub(crate) fn expect_places<S: Spool>(spool: &mut S, count: usize) -> Result<(), Fail> {
-    assert_eq!(spool.count(), count);
+pub(crate) fn expect_places<S: Spool>(
+    rt: &impl Abort,
+    spool: &mut S,
+    count: usize,
+) -> Result<(), Fail> {
+    assert_eq!(rt; spool.count(), count);
     if count > 0 {
-        expect_empty(spool, 0)?;
-        expect_empty(spool, count - 1)?;
+        expect_empty(rt, spool, 0)?;
+        expect_empty(rt, spool, count - 1)?;
     }
-    expect_no_place(spool, count)
+    expect_no_place(rt, spool, count)
 }
 
 // The lengths that a place takes and does not take, and a buffer that is one byte too short.
@@ -69,7 +77,7 @@ pub(crate) fn play_lengths<S: Spool>(
     assert_eq!(rt; buf[0], 7);
     expect_kept(rt, spool, place, b"z")?;
     assert_eq!(rt; spool.clear(place), Ok(()));
-    expect_empty(spool, place)?;
+    expect_empty(rt, spool, place)?;
     assert_eq!(rt; spool.clear(place), Ok(()));
     Ok(())
 }

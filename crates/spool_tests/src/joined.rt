@@ -7,12 +7,12 @@ use tray::Tray;
 #[test]
 fn two_trays_as_one(rt: HostRuntime) -> Result<(), Fail> {
     let mut spool = Joined::new(Tray::new(), Tray::new());
-    expect_places(&mut spool, 32)?;
+    expect_places(&rt, &mut spool, 32)?;
     play_lengths(&rt, &mut spool, 15)?;
     play_lengths(&rt, &mut spool, 16)?;
     expect_kept(&rt, &mut spool, 16, b"second")?;
-    expect_empty(&spool, 0)?;
-    expect_empty(&spool, 15)
+    expect_empty(&rt, &spool, 0)?;
+    expect_empty(&rt, &spool, 15)
 }
 
 #[test]
@@ -23,7 +23,7 @@ fn none_past_256(rt: HostRuntime) -> Result<(), Fail> {
         PlaceSpool::new(left.as_mut_slice()),
         PlaceSpool::new(right.as_mut_slice()),
     );
-    expect_places(&mut spool, 256)?;
+    expect_places(&rt, &mut spool, 256)?;
     play_lengths(&rt, &mut spool, 199)?;
     play_lengths(&rt, &mut spool, 255)
 }
@@ -35,9 +35,9 @@ fn joined_of_joined(rt: HostRuntime) -> Result<(), Fail> {
         Joined::new(Tray::new(), PlaceSpool::new(&mut memory)),
         Joined::new(PlaceSpool::new(&mut []), Tray::new()),
     );
-    expect_places(&mut spool, 34)?;
+    expect_places(&rt, &mut spool, 34)?;
     play_lengths(&rt, &mut spool, 17)?;
     play_lengths(&rt, &mut spool, 18)?;
     expect_kept(&rt, &mut spool, 33, b"last")?;
-    expect_empty(&spool, 32)
+    expect_empty(&rt, &spool, 32)
 }

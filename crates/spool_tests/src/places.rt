@@ -1,26 +1,33 @@
 use crate::edges::{expect_kept, expect_places, play_lengths};
 use place_spool::PlaceSpool;
 use spool::Spool;
+use std::alloc::Global;
+use std::process::Abort;
 use std::test::*;
 
 // A place spool over so many bytes has so many places, and zeros alone lie in its memory.
-fn expect_places_in(rt: HostRuntime, bytes: usize, places: usize) -> Result<(), Fail> {
-    let mut memory = vec![in rt.alloc(); 255u8; bytes]?;
+fn expect_places_in(
+    rt: &impl Abort,
+    heap: Global,
+    bytes: usize,
+    places: usize,
+) -> Result<(), Fail> {
+    let mut memory = vec![in heap; 255u8; bytes]?;
     let mut spool = PlaceSpool::new(memory.as_mut_slice());
-    expect_places(&mut spool, places)?;
+    expect_places(rt, &mut spool, places)?;
     for byte in memory.iter() {
-        assert_eq!(*byte, 0);
+        assert_eq!(rt; *byte, 0);
     }
     Ok(())
 }
 
 #[test]
 fn a_place_for_each_full_cell(rt: HostRuntime) -> Result<(), Fail> {
-    expect_places_in(rt, 0, 0)?;
-    expect_places_in(rt, 2049, 0)?;
-    expect_places_in(rt, 2050, 1)?;
-    expect_places_in(rt, 4099, 1)?;
-    expect_places_in(rt, 525_000, 256)
+    expect_places_in(&rt, rt.alloc(), 0, 0)?;
+    expect_places_in(&rt, rt.alloc(), 2049, 0)?;
+    expect_places_in(&rt, rt.alloc(), 2050, 1)?;
+    expect_places_in(&rt, rt.alloc(), 4099, 1)?;
+    expect_places_in(&rt, rt.alloc(), 525_000, 256)
 }
 
 #[test]

@@ -15,12 +15,12 @@ fn refusals_have_numbers(rt: HostRuntime) -> Result<(), Fail> {
 #[test]
 fn a_tray_has_sixteen_places(rt: HostRuntime) -> Result<(), Fail> {
     let mut tray = Tray::new();
-    expect_places(&mut tray, 16)?;
+    expect_places(&rt, &mut tray, 16)?;
     play_lengths(&rt, &mut tray, 0)?;
     play_lengths(&rt, &mut tray, 15)?;
     expect_kept(&rt, &mut tray, 3, b"three")?;
-    expect_empty(&tray, 2)?;
-    expect_empty(&tray, 4)?;
+    expect_empty(&rt, &tray, 2)?;
+    expect_empty(&rt, &tray, 4)?;
     clear_all(&mut tray);
-    expect_empty(&tray, 3)
+    expect_empty(&rt, &tray, 3)
 }
