@@ -1,10 +1,9 @@
 // Message rows: which messages were answered, and with what first.
-ghost use Rattle.std.specs.Prelude.{◌≡◌, IfSome};
+ghost use Rattle.std.specs.Prelude.{◌≡◌, IfSome, refl};
 ghost use Rattle.message_rows.specs.Messages.{messages, message_row, message_key_of, MessageParts};
 ghost use Rattle.ledger.proofs.Equivalences.{both, through};
 ghost use Rattle.short_text.specs.ShortTexts.{same_short_text};
 ghost use Rattle.envelope_rows.proofs.Alike.{short_text_alike};
-ghost use Rattle.std.proofs.Common.{rules};
 
 use envelope_rows::kept::Kept;
 use ledger::row::Row;
@@ -66,7 +65,7 @@ impl Row for MessageRow {
 
     ghost alike = { both _ _ (through same_short_text (λ k. k.fr) short_text_alike) (through same_short_text (λ k. k.on) short_text_alike) };
 
-    ghost empty = { Prim.search rules };
+    ghost empty = { refl };
 
     fn is_filled(&self) -> bool {
         self.used && self.fr.is_address() && self.on.is_operation_number() && self.kept.is_lawful()

@@ -1,10 +1,9 @@
 // Status rows: which statuses were passed on.
-ghost use Rattle.std.specs.Prelude.{◌≡◌, IfSome, nat_eq};
+ghost use Rattle.std.specs.Prelude.{◌≡◌, IfSome, nat_eq, refl};
 ghost use Rattle.status_rows.specs.Statuses.{statuses, status_row, status_key_of, StatusParts};
 ghost use Rattle.ledger.proofs.Equivalences.{both, through};
 ghost use Rattle.short_text.specs.ShortTexts.{same_short_text};
 ghost use Rattle.envelope_rows.proofs.Alike.{short_text_alike, number_alike};
-ghost use Rattle.std.proofs.Common.{rules};
 
 use envelope::limits::is_code;
 use envelope::parts::Kind;
@@ -84,7 +83,7 @@ impl Row for StatusRow {
     ghost alike = { both _ _ (both _ _ (through same_short_text (λ k. k.fr) short_text_alike) (through same_short_text (λ k. k.ad) short_text_alike))
         (both _ _ (through same_short_text (λ k. k.on) short_text_alike) (through nat_eq (λ k. k.code) number_alike)) };
 
-    ghost empty = { Prim.search rules };
+    ghost empty = { refl };
 
     fn is_filled(&self) -> bool {
         let addresses = self.fr.is_address() && self.ad.is_address();
