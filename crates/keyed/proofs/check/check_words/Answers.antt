@@ -8,7 +8,7 @@ use Rattle.keyed.proofs.check.check_words.Goals as goal
 
 pub returns-in_err-check_word : goal.returns-in_err-check_word
 returns-in_err-check_word c =
-    let p = err_from_is_err_and c.from-residual.result c.from-residual.ensures.1 in
+    let p = err_from_is_err_and c.from_residual.result c.from_residual.ensures.1 in
     rw (p.1, p.2) (checks_stop c.args.words.now c.loop-word.word-index _ c.loop-word-test.true _ c.loop-word.invariant c.in_err-check_word.ensures)
 
 pub loop-word-preserved : goal.loop-word-preserved
