@@ -1,6 +1,6 @@
 -- One turn of a loop over keyed words.
-use Rattle.std.proofs.Common.{◌≡◌, ℕ, suc, ◌+◌, ◌<◌, ◌≤◌, Bool, true, false, cond, ◌&&◌, List, [], ◌∷◌, length, get_or, drop, Ok, Err, Option, Result, sym, refl, ap, ◌∙◌, arith, Bor}
-use Rattle.std.proofs.lemmas.List.{at_drop_more, at_drop_all}
+use Rattle.std.proofs.Common.{◌≡◌, ℕ, suc, ◌+◌, ◌<◌, Bool, cond, ◌&&◌, List, length, get_or, drop, Err, Result, sym, ap, ◌∙◌, Bor}
+use Rattle.std.proofs.lemmas.List.{at_drop_more}
 use Rattle.words.specs.Cuts.{seen}
 use Rattle.keyed.specs.Keys.{value_under, has_key, count, or_else, find}
 use Rattle.keyed.specs.Shapes.{key_of, all_keys}

@@ -1,5 +1,5 @@
 -- The fields of an envelope by keyed words.
-use Rattle.std.specs.Prelude.{ℕ, Bool, cond, ◌||◌, List, [], ◌∷◌, Some, None, Ok, Err, vec_items, codes, Option, Result}
+use Rattle.std.specs.Prelude.{ℕ, cond, ◌||◌, List, [], ◌∷◌, Some, None, Ok, Err, vec_items, codes, Option, Result}
 use Rattle.words.specs.Cuts.{key_value_of}
 use Rattle.arguments.specs.Values.{number_argument, text_argument}
 use Rattle.arguments.specs.declared.fault.LineFault.{LineFault}

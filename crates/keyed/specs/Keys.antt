@@ -1,5 +1,5 @@
 -- Words of the form `key=value`.
-use Rattle.std.specs.Prelude.{ℕ, suc, Bool, true, false, cond, List, [], ◌∷◌, is_some, Some, None, Option}
+use Rattle.std.specs.Prelude.{ℕ, suc, Bool, cond, List, [], ◌∷◌, is_some, Some, None, Option}
 use Rattle.std.specs.Str.{bytes_eq}
 use Rattle.words.specs.Cuts.{key_value_of}
 
