@@ -18,7 +18,7 @@ use standing::standing::About;
 
 // The lowest free place of those that the spool has.
 fn free_place<S: Spool>(relay: &Relay<S>) -> Option<usize>
-    ensures { result ≡ free_place (view held relay.now) }
+    ensures { result ≡ free_place (view S.held relay.now) }
 {
     relay.table.lowest_free(relay.spool.count())
 }
