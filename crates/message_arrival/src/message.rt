@@ -39,7 +39,7 @@ pub fn take_message<S: Spool>(
     routes: &[RouteRow],
     messages: &mut Ledger<MessageRow>,
 ) -> Result<Arrived, ArrivalFault>
-    ensures outcome { taken result (view held relay.new) messages.new.rows.now ≡ message_taken (view held relay.old) neighbour (fields_of parts.entry) rec.now routes.now messages.old.rows.now }
+    ensures outcome { taken result (view S.held relay.new) messages.new.rows.now ≡ message_taken (view S.held relay.old) neighbour (fields_of parts.entry) rec.now routes.now messages.old.rows.now }
     ensures lender { messages.new.rows.ghost_name ≡ messages.old.rows.ghost_name }
 {
     let key = or_no_row(MessageKey::new(parts.fr.bytes, parts.on.bytes))?;
