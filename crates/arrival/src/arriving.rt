@@ -42,7 +42,7 @@ fn receive<S: Spool>(
     messages: &mut Ledger<MessageRow>,
     statuses: &mut Ledger<StatusRow>,
 ) -> Result<Arrived, ArrivalFault>
-    ensures outcome { outcome (viewed (λ x. x) arrival_refusal result) (view held relay.new) messages.new.rows.now statuses.new.rows.now ≡ arrival (view held relay.old) (may_send connection.now) connection.now.neighbour clock rec.now routes.now messages.old.rows.now statuses.old.rows.now }
+    ensures outcome { outcome (viewed (λ x. x) arrival_refusal result) (view S.held relay.new) messages.new.rows.now statuses.new.rows.now ≡ arrival (view S.held relay.old) (may_send connection.now) connection.now.neighbour clock rec.now routes.now messages.old.rows.now statuses.old.rows.now }
     ensures messages_lender { messages.new.rows.ghost_name ≡ messages.old.rows.ghost_name }
     ensures statuses_lender { statuses.new.rows.ghost_name ≡ statuses.old.rows.ghost_name }
 {
@@ -71,14 +71,14 @@ pub fn arrive<S: Spool>(
     messages: &mut Ledger<MessageRow>,
     statuses: &mut Ledger<StatusRow>,
 ) -> Result<Arrived, ArrivalFault>
-    ensures answer { viewed (λ x. x) arrival_refusal result ≡ (arrival (view held relay.old) (may_send connection.now) connection.now.neighbour clock rec.now routes.now messages.old.rows.now statuses.old.rows.now).answer }
-    ensures state { view held relay.new ≡ (arrival (view held relay.old) (may_send connection.now) connection.now.neighbour clock rec.now routes.now messages.old.rows.now statuses.old.rows.now).state }
-    ensures messages { messages.new.rows.now ≡ (arrival (view held relay.old) (may_send connection.now) connection.now.neighbour clock rec.now routes.now messages.old.rows.now statuses.old.rows.now).messages }
-    ensures statuses { statuses.new.rows.now ≡ (arrival (view held relay.old) (may_send connection.now) connection.now.neighbour clock rec.now routes.now messages.old.rows.now statuses.old.rows.now).statuses }
+    ensures answer { viewed (λ x. x) arrival_refusal result ≡ (arrival (view S.held relay.old) (may_send connection.now) connection.now.neighbour clock rec.now routes.now messages.old.rows.now statuses.old.rows.now).answer }
+    ensures state { view S.held relay.new ≡ (arrival (view S.held relay.old) (may_send connection.now) connection.now.neighbour clock rec.now routes.now messages.old.rows.now statuses.old.rows.now).state }
+    ensures messages { messages.new.rows.now ≡ (arrival (view S.held relay.old) (may_send connection.now) connection.now.neighbour clock rec.now routes.now messages.old.rows.now statuses.old.rows.now).messages }
+    ensures statuses { statuses.new.rows.now ≡ (arrival (view S.held relay.old) (may_send connection.now) connection.now.neighbour clock rec.now routes.now messages.old.rows.now statuses.old.rows.now).statuses }
     ensures messages_lender { messages.new.rows.ghost_name ≡ messages.old.rows.ghost_name }
     ensures statuses_lender { statuses.new.rows.ghost_name ≡ statuses.old.rows.ghost_name }
-    ensures not_taken_in_moves_only_the_time { ByPlace result (λ _. Unit {0}) ((view held relay.new ≡ timed (view held relay.old) clock) × (messages.new.rows.now ≡ messages.old.rows.now) × (statuses.new.rows.now ≡ statuses.old.rows.now)) }
-    ensures taken_in_is_stored { ByPlace result (StoredAt rec.now (view held relay.old) (view held relay.new)) (Unit {0}) }
+    ensures not_taken_in_moves_only_the_time { ByPlace result (λ _. Unit {0}) ((view S.held relay.new ≡ timed (view S.held relay.old) clock) × (messages.new.rows.now ≡ messages.old.rows.now) × (statuses.new.rows.now ≡ statuses.old.rows.now)) }
+    ensures taken_in_is_stored { ByPlace result (StoredAt rec.now (view S.held relay.old) (view S.held relay.new)) (Unit {0}) }
 {
     receive(relay, connection, clock, rec, routes, messages, statuses)
 }

@@ -26,7 +26,7 @@ pub fn bring<S: Spool>(
     messages: &mut Ledger<MessageRow>,
     statuses: &mut Ledger<StatusRow>,
 ) -> Result<Arrived, ArrivalFault>
-    ensures outcome { outcome result (view held relay.new) messages.new.rows.now statuses.new.rows.now ≡ brought (view held relay.old) neighbour (whole_of envelope.entry) rec.now routes.now messages.old.rows.now statuses.old.rows.now }
+    ensures outcome { outcome result (view S.held relay.new) messages.new.rows.now statuses.new.rows.now ≡ brought (view S.held relay.old) neighbour (whole_of envelope.entry) rec.now routes.now messages.old.rows.now statuses.old.rows.now }
     ensures messages_lender { messages.new.rows.ghost_name ≡ messages.old.rows.ghost_name }
     ensures statuses_lender { statuses.new.rows.ghost_name ≡ statuses.old.rows.ghost_name }
 {

@@ -18,8 +18,8 @@ returns g c =
       state = λ i. (e i).state;
       messages = λ i. (e i).messages;
       statuses = λ i. (e i).statuses;
-      messages-lender = c.receive.ensures.messages-lender;
-      statuses-lender = c.receive.ensures.statuses-lender;
-      not-taken-in-moves-only-the-time = only_the_time s may neighbour c.args.clock bytes routes ms ss _ _ _ _ e;
-      taken-in-is-stored = is_stored s may neighbour c.args.clock bytes routes ms ss _ _ _ _ e;
+      messages_lender = c.receive.ensures.messages_lender;
+      statuses_lender = c.receive.ensures.statuses_lender;
+      not_taken_in_moves_only_the_time = only_the_time s may neighbour c.args.clock bytes routes ms ss _ _ _ _ e;
+      taken_in_is_stored = is_stored s may neighbour c.args.clock bytes routes ms ss _ _ _ _ e;
     }
