@@ -1,5 +1,5 @@
 -- What an answer to a try did.
-use Rattle.std.proofs.Common.{◌≡◌, ℕ, zero, suc, ◌+◌, ◌<◌, ◌≤◌, Bool, true, false, cond, ◌&&◌, ◌||◌, eqb, ltb, leb, ◌⊎◌, List, [], ◌∷◌, length, get_or, take, drop, set, Some, None, Ok, Err, Option, Result, sym, refl, ap, ◌∙◌, subst, inl, inr, arith, ltb-false, lt-ltb, le-leb, leb-true}
+use Rattle.std.proofs.Common.{◌≡◌, ℕ, Bool, true, false, cond, ◌&&◌, eqb, ltb, leb, List, Some, None, Option, sym, refl, ap, subst, inl, arith}
 use Rattle.envelope.specs.declared.parts.Kind.{Kind}
 use Rattle.envelope.specs.declared.parts.Kind.TheVariants as kind
 use Rattle.message_rows.specs.declared.message.MessageRow.{MessageRow}
@@ -14,9 +14,7 @@ use Rattle.account.specs.Moves.{about_in}
 use Rattle.deeds.specs.Ranges.{AllInRange, Done}
 use Rattle.std.proofs.lemmas.Bool.Decides.{nat_tests}
 use Rattle.envelope.specs.Limits.{code_ok}
-use Rattle.ending.specs.Acts.{done_by, left_by}
-use Rattle.ending.specs.declared.act.Act.{Act}
-use Rattle.ending.specs.declared.act.Act.TheVariants.{WaitAgain, PassOn, Report, DoubleFault}
+use Rattle.ending.specs.declared.act.Act.TheVariants.{PassOn, Report}
 use Rattle.ending.specs.declared.act.Task.{Task}
 use Rattle.delivery.specs.Outcomes.{reply_of}
 use Rattle.delivery.specs.Answers.{act_after, task_after, answer_of, left_after}

@@ -1,23 +1,20 @@
 -- What an arrival did.
-use Rattle.std.proofs.Common.{◌≡◌, ℕ, zero, suc, ◌+◌, ◌-◌, ◌<◌, ◌≤◌, min, Bool, true, false, cond, ◌&&◌, ◌||◌, eqb, ltb, leb, ◌⊎◌, List, [], ◌∷◌, length, get_or, take, set, Some, None, Ok, Err, Option, Result, sym, refl, ap, ◌∙◌, subst, inl, inr, arith, length-take, ltb-true, lt-ltb, eqb-true}
-use Rattle.std.specs.List.{slice_get}
+use Rattle.std.proofs.Common.{◌≡◌, ℕ, suc, ◌+◌, ◌-◌, ◌<◌, min, true, false, cond, eqb, List, [], ◌∷◌, length, get_or, take, Some, None, Ok, Err, Option, Result, sym, refl, ap, ◌∙◌, subst, inl, inr, arith, length-take, lt-ltb}
 use Rattle.std.proofs.lemmas.Option.{slice_get-get_or}
 use Rattle.std.proofs.lemmas.List.{get_or-take}
 use Rattle.std.proofs.lemmas.Bool.{le-leb, and_from}
 use Rattle.std.proofs.lemmas.Bool.Decides.{nat_tests}
 use Rattle.text.specs.Said.{Said}
 use Rattle.envelope.specs.Views.{Whole, Fields, whole}
-use Rattle.envelope.specs.Life.{end_of, live_at}
-use Rattle.envelope.specs.Limits.{timeout_ok, kind_ok}
+use Rattle.envelope.specs.Life.{end_of}
 use Rattle.envelope.specs.Decoding.{decode}
 use Rattle.envelope_reading.proofs.Laws.{laws}
-use Rattle.ledger.specs.Kinds.{Kind}
 use Rattle.ledger.specs.Searches.{found, place_for, row_at}
 use Rattle.ledger.specs.Changes.{rows_after_adding}
 use Rattle.short_text.specs.ShortTexts.{keeping}
 use Rattle.short_text.proofs.Held.{holds}
 use Rattle.envelope_rows.specs.Kepts.{kept_ok}
-use Rattle.message_rows.specs.Messages.{messages, message_filled, message_key, message_key_of, same_message, freed_message}
+use Rattle.message_rows.specs.Messages.{messages, message_key, message_key_of, same_message, freed_message}
 use Rattle.status_rows.specs.Statuses.{statuses, status_key_of}
 use Rattle.envelope_rows.specs.declared.kept.Kept.{Kept}
 use Rattle.message_rows.specs.declared.message.MessageKey.{MessageKey}
@@ -27,7 +24,7 @@ use Rattle.status_rows.specs.declared.status.StatusRow.{StatusRow}
 use Rattle.routing.specs.declared.row.Way.{Way}
 use Rattle.routing.specs.declared.row.Way.TheVariants.{Local, Neighbour}
 use Rattle.routing.specs.declared.row.RouteRow.{RouteRow}
-use Rattle.spool.specs.Meaning.{at, storable}
+use Rattle.spool.specs.Meaning.{storable}
 use Rattle.standing.specs.Standings.{standing_at}
 use Rattle.standing.specs.Frees.{first_free, free_or}
 use Rattle.standing.specs.declared.standing.About.{About}
@@ -36,14 +33,14 @@ use Rattle.standing.specs.declared.standing.Standing.TheVariants as standing
 use Rattle.relay.specs.States.{State}
 use Rattle.relay.specs.Abouts.{about_of}
 use Rattle.arrival_checks.specs.declared.answer.Arrived.{Arrived}
-use Rattle.arrival_checks.specs.declared.answer.Arrived.TheVariants.{Entered, Waiting, Repeated, Unwanted}
+use Rattle.arrival_checks.specs.declared.answer.Arrived.TheVariants.{Repeated, Unwanted}
 use Rattle.arrival_checks.specs.declared.fault.ArrivalFault.{ArrivalFault}
 use Rattle.arrival_checks.specs.declared.fault.ArrivalFault.TheVariants.{Different}
 use Rattle.arrival_checks.specs.declared.ways.Ways.{Ways}
-use Rattle.arrival_checks.specs.Repeats.{kept_of, first_code, answered_again, is_repeat, again_code}
+use Rattle.arrival_checks.specs.Repeats.{kept_of, answered_again, is_repeat, again_code}
 use Rattle.arrival_checks.specs.Ways.{message_ways, status_ways}
 use Rattle.arrival_checks.specs.Keys.{or_no_row}
-use Rattle.intake.specs.TakingIn.{free_place, room_at, room_for, answer_for, taking_in}
+use Rattle.intake.specs.TakingIn.{free_place, room_at, answer_for, taking_in}
 use Rattle.relay.specs.Moves.{standing_on, settled}
 use Rattle.intake.specs.Steps.{Taken, taken, go_on, unless_found}
 use Rattle.message_arrival.specs.Messages.{message_row_of, message_taken}
@@ -55,7 +52,7 @@ use Rattle.account.specs.Moves.{TookIn, Changed}
 use Rattle.account.specs.Laws.{whereabouts}
 use Rattle.account.specs.Deeds.{Whereabouts}
 use Rattle.account.specs.Deeds.Whereabouts.{waiting, inbox}
-use Rattle.account.proofs.Known.{record_kind, status_no_message}
+use Rattle.account.proofs.Known.{status_no_message}
 use Rattle.account.proofs.Lists.{true_false}
 use Rattle.account.proofs.Ledgers.{key_read, message_alike, found_within}
 use Rattle.deeds.specs.Told.{arrival_deed}

@@ -1,5 +1,5 @@
 -- What a collection and a notice did.
-use Rattle.std.proofs.Common.{◌≡◌, ℕ, zero, suc, ◌+◌, ◌<◌, ◌≤◌, Bool, true, false, cond, ◌&&◌, ◌||◌, eqb, ltb, leb, ◌⊎◌, List, [], ◌∷◌, length, get_or, take, drop, set, Some, None, Ok, Err, Option, Result, sym, refl, ap, ◌∙◌, subst, inl, inr, arith, ltb-false, lt-ltb, le-leb, leb-true}
+use Rattle.std.proofs.Common.{◌≡◌, ℕ, ◌<◌, Bool, true, false, cond, ◌&&◌, leb, List, [], length, get_or, take, drop, Some, None, Ok, Err, Option, Result, sym, refl, ap, ◌∙◌, subst, inl, arith, lt-ltb}
 use Rattle.envelope.specs.declared.parts.Kind.{Kind}
 use Rattle.envelope.specs.declared.parts.Kind.TheVariants as kind
 use Rattle.message_rows.specs.declared.message.MessageRow.{MessageRow}
@@ -13,13 +13,13 @@ use Rattle.account.specs.Faith.{Faithful, Matches}
 use Rattle.account.specs.Moves.{about_in}
 use Rattle.deeds.specs.Ranges.{AllInRange, Done}
 use Rattle.std.proofs.lemmas.List.{take_at}
-use Rattle.spool.specs.Meaning.{at, copy_answer, copied, is_place, over_front}
+use Rattle.spool.specs.Meaning.{at, copy_answer, copied, over_front}
 use Rattle.spool.specs.declared.fault.SpoolFault.{SpoolFault}
 use Rattle.spool.specs.declared.fault.SpoolFault.TheVariants.{NoPlace, ShortBuffer}
-use Rattle.searches.specs.Earliest.{earliest, time_of, FirstOf}
+use Rattle.searches.specs.Earliest.{time_of, FirstOf}
 use Rattle.searches.specs.declared.search.Found.{Found}
 use Rattle.searches.specs.declared.search.Wanted.{Wanted}
-use Rattle.searches.specs.declared.search.Wanted.TheVariants.{Due, Entry, Notified}
+use Rattle.searches.specs.declared.search.Wanted.TheVariants.{Entry, Notified}
 use Rattle.searches.proofs.First.{first_of}
 use Rattle.relay.specs.Moves.{discharged}
 use Rattle.office.specs.Gifts.{kind_at, given_as, freed_if, taken_answer, taken_buffer, taken_state, oldest}

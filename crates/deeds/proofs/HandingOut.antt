@@ -1,9 +1,9 @@
 -- What a hand-out did.
-use Rattle.std.proofs.Common.{◌≡◌, ℕ, ◌+◌, ◌<◌, ◌≤◌, Bool, true, false, cond, eqb, ltb, leb, ◌⊎◌, List, [], length, get_or, set, Some, None, Ok, Err, Option, Result, sym, refl, ap, ◌∙◌, subst, inl, inr, arith, lt-ltb}
+use Rattle.std.proofs.Common.{◌≡◌, ℕ, ◌+◌, true, false, cond, eqb, List, get_or, Some, None, Ok, Err, Option, Result, refl, ap, ◌∙◌, inl, arith, lt-ltb}
 use Rattle.message_rows.specs.declared.message.MessageRow.{MessageRow}
 use Rattle.spool.specs.Meaning.{at}
 use Rattle.standing.specs.Standings.{standing_at, with_standing, out_under}
-use Rattle.searches.specs.Earliest.{earliest, time_of, FirstOf}
+use Rattle.searches.specs.Earliest.{time_of, FirstOf}
 use Rattle.searches.specs.declared.search.Found.{Found}
 use Rattle.searches.specs.declared.search.Wanted.TheVariants.{Due}
 use Rattle.standing.specs.declared.standing.About.{About}
@@ -17,9 +17,8 @@ use Rattle.delivery.specs.declared.fault.HandOutFault.TheVariants.{TriesUsed}
 use Rattle.delivery.specs.declared.handing_out.HandOut.{HandOut}
 use Rattle.account.specs.Accounts.{Account}
 use Rattle.account.specs.Faith.{Faithful}
-use Rattle.account.specs.Moves.{Did, Turned, Changed, about_in}
+use Rattle.account.specs.Moves.{Turned, about_in}
 use Rattle.account.specs.Deeds.Whereabouts.{out}
-use Rattle.account.specs.Deeds.Deed.{nothing, turned}
 use Rattle.deeds.specs.Told.{hand_out_deed}
 use Rattle.deeds.specs.Ranges.{AllInRange, Done}
 use Rattle.deeds.proofs.Places.{none_some, busy_within, put_standing, same_place, changed_in_range}

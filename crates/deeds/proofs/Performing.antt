@@ -1,8 +1,5 @@
 -- What is done with the envelope at a place, as its answer tells it.
-use Rattle.std.proofs.Common.{◌≡◌, ℕ, ◌+◌, ◌<◌, ◌≤◌, Bool, true, false, cond, eqb, ◌⊎◌, List, [], length, get_or, set, Some, None, Ok, Err, Option, Result, sym, refl, ap, ◌∙◌, subst, inl, inr, arith, eqb-true}
-use Rattle.text.specs.Said.{Said}
-use Rattle.envelope.specs.Views.{Whole}
-use Rattle.envelope.specs.Decoding.{decode}
+use Rattle.std.proofs.Common.{◌≡◌, ℕ, ◌<◌, Bool, true, false, cond, eqb, List, [], length, set, Some, sym, refl, ap, ◌∙◌, subst, inr, arith, eqb-true}
 use Rattle.envelope.specs.Limits.{code_ok}
 use Rattle.envelope.specs.declared.parts.Kind.{Kind}
 use Rattle.envelope.specs.declared.parts.Kind.TheVariants as kind
@@ -13,26 +10,23 @@ use Rattle.spool.specs.Meaning.{at}
 use Rattle.standing.specs.Standings.{standing_at, with_standing, waiting_again}
 use Rattle.standing.specs.declared.standing.About.{About}
 use Rattle.standing.specs.declared.standing.Standing.{Standing}
-use Rattle.standing.specs.declared.standing.Standing.TheVariants.{Free, Waiting, Out, Inbox, Notice}
+use Rattle.standing.specs.declared.standing.Standing.TheVariants.{Free, Waiting, Out, Notice}
 use Rattle.relay.specs.States.{State, holding}
-use Rattle.relay.specs.Abouts.{about_of, kind_of}
 use Rattle.relay.specs.Moves.{standing_on, settled, discharged}
 use Rattle.ending.specs.Acts as acts
 use Rattle.ending.specs.Retries.{due_again, one_more, waits_again}
-use Rattle.ending.specs.DoubleFaults.{double_fault}
-use Rattle.ending.specs.Reports.{Report, is_some, is_reported, report_at, with_report}
+use Rattle.ending.specs.Reports.{is_some, is_reported, with_report}
 use Rattle.ending.specs.declared.act.Act.{Act}
 use Rattle.ending.specs.declared.act.Act.TheVariants.{WaitAgain, PassOn, Report as report-act, DoubleFault}
 use Rattle.ending.specs.declared.act.Done.TheVariants as done
 use Rattle.account.specs.Accounts.{Account}
 use Rattle.account.specs.Faith.{Faithful, Describes, Matches}
-use Rattle.account.specs.Moves.{Did, Turned, Changed, Cleared, GaveWay, SetAside, Holds, about_in}
-use Rattle.account.specs.Deeds.Whereabouts.{waiting}
+use Rattle.account.specs.Moves.{Changed, Cleared, about_in}
 use Rattle.account.proofs.Known.{described}
 use Rattle.deeds.specs.Told.{done_deed}
 use Rattle.deeds.specs.Ranges.{AllInRange, Done}
 use Rattle.deeds.proofs.Places.{busy_within, put_standing, same_place, store_is, changed_in_range, discharge_changes, empty_in_range}
-use Rattle.deeds.proofs.Reports.{Reportable, reportable}
+use Rattle.deeds.proofs.Reports.{reportable}
 
 -- what an act needs: only what is out waits again, only a message is reported, by a status's code, only a status is a double
 -- fault
@@ -99,9 +93,9 @@ module _ (a : Account) (s : State) (rows : List MessageRow) (f : Faithful a s ro
       }
   faults k false e = record { did = (k, (p, clears about.kind refl), refl); in_range = cleared_range }
 
-  settles : (way : Way) (known : About) (rec : List ℕ) → Describes known rec → Matches (standing_on way s.time known) rec
-  settles Local known rec d = d
-  settles (Neighbour n) known rec d = d
+  settles : (way : Way) (m : About) (rec : List ℕ) → Describes m rec → Matches (standing_on way s.time m) rec
+  settles Local m rec d = d
+  settles (Neighbour n) m rec d = d
 
   reports : (code : ℕ) → Suits (standing_at s.standings p) about (report-act code)
       → Done (done_deed p (acts.done_by s p about (report-act code))) s (acts.left_by s p about (report-act code)) rows rows

@@ -1,17 +1,14 @@
 -- A place of the relay that holds an envelope, and what changes there.
-use Rattle.std.proofs.Common.{◌≡◌, ℕ, ◌^◌, ◌<◌, ◌≤◌, Bool, true, false, cond, ◌&&◌, eqb, ltb, leb, ◌⊎◌, List, [], length, get_or, set, Some, None, Ok, Err, Option, Result, sym, refl, ap, ◌∙◌, subst, inl, inr, arith, get_or-set_other, get_or-set_same, ltb-true, lt-ltb, eqb-true}
+use Rattle.std.proofs.Common.{◌≡◌, ℕ, ◌<◌, Bool, true, false, cond, eqb, List, [], length, set, Some, None, Option, sym, refl, ap, ◌∙◌, subst, inl, inr, arith, get_or-set_other, get_or-set_same, lt-ltb, eqb-true}
 use borrow.Author.Tests.{eqb-false}
 use lib.Seq.{set-get_or}
 use Rattle.std.proofs.lemmas.Bool.{cases_lt}
-use Rattle.text.specs.Said.{Said}
-use Rattle.envelope.specs.Views.{Whole}
-use Rattle.envelope.specs.Decoding.{decode}
 use Rattle.message_rows.specs.declared.message.MessageRow.{MessageRow}
-use Rattle.spool.specs.Meaning.{at, stored, cleared, storable, is_place}
+use Rattle.spool.specs.Meaning.{at, stored, cleared, storable}
 use Rattle.standing.specs.Standings.{standing_at, with_standing}
 use Rattle.standing.specs.declared.standing.About.{About}
 use Rattle.standing.specs.declared.standing.Standing.{Standing}
-use Rattle.standing.specs.declared.standing.Standing.TheVariants.{Free, Waiting, Out, Inbox, Notice}
+use Rattle.standing.specs.declared.standing.Standing.TheVariants.{Free}
 use Rattle.relay.specs.States.{State}
 use Rattle.relay.specs.Moves.{discharged}
 use Rattle.account.specs.Accounts.{Account}

@@ -1,10 +1,10 @@
 -- A report on a message that lies in the spool can always be written, and reads as a status.
-use Rattle.std.proofs.Common.{◌≡◌, ℕ, ◌+◌, ◌^◌, ◌<◌, ◌≤◌, Bool, true, false, cond, ◌&&◌, eqb, List, [], ◌∷◌, length, is_ok, Some, None, Ok, Err, Option, Result, sym, refl, ap, ◌∙◌, subst, arith}
+use Rattle.std.proofs.Common.{◌≡◌, ℕ, ◌+◌, ◌^◌, ◌<◌, ◌≤◌, true, cond, eqb, List, [], ◌∷◌, length, is_ok, Some, None, Ok, Result, sym, refl, ap, ◌∙◌, subst, arith}
 use Rattle.std.proofs.lemmas.Bool.{le-leb, and_from}
 use Rattle.std.proofs.lemmas.Bool.Decides.{nat_tests}
 use Rattle.text.specs.Said.{Said}
 use Rattle.text.specs.Forms.{is_address}
-use Rattle.envelope.specs.Views.{Whole, Fields, whole}
+use Rattle.envelope.specs.Views.{Whole, whole}
 use Rattle.envelope.specs.Decoding.{decode, checked, unless}
 use Rattle.envelope.specs.Layout.{row, first_broken}
 use Rattle.envelope.specs.Limits.{timeout_ok, code_ok}

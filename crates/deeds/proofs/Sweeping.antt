@@ -1,5 +1,5 @@
 -- What a sweep did.
-use Rattle.std.proofs.Common.{◌≡◌, ℕ, zero, suc, ◌+◌, ◌<◌, ◌≤◌, Bool, true, false, cond, ◌&&◌, ◌||◌, eqb, ltb, leb, ◌⊎◌, List, [], ◌∷◌, length, get_or, take, drop, set, Some, None, Ok, Err, Option, Result, sym, refl, ap, ◌∙◌, subst, inl, inr, arith, ltb-false, lt-ltb, le-leb, leb-true}
+use Rattle.std.proofs.Common.{◌≡◌, ℕ, suc, ◌+◌, ◌<◌, Bool, true, false, cond, leb, List, [], ◌∷◌, length, get_or, Some, None, Option, sym, refl, ap, ◌∙◌, subst, inl, arith, lt-ltb}
 use Rattle.envelope.specs.declared.parts.Kind.{Kind}
 use Rattle.envelope.specs.declared.parts.Kind.TheVariants as kind
 use Rattle.message_rows.specs.declared.message.MessageRow.{MessageRow}
@@ -12,9 +12,7 @@ use Rattle.account.specs.Accounts.{Account}
 use Rattle.account.specs.Faith.{Faithful}
 use Rattle.account.specs.Moves.{about_in}
 use Rattle.deeds.specs.Ranges.{AllInRange, Done}
-use Rattle.ending.specs.Acts.{done_by, left_by}
-use Rattle.ending.specs.declared.act.Act.{Act}
-use Rattle.ending.specs.declared.act.Act.TheVariants.{WaitAgain, PassOn, Report, DoubleFault}
+use Rattle.ending.specs.declared.act.Act.TheVariants.{WaitAgain, Report, DoubleFault}
 use Rattle.ending.specs.declared.act.Task.{Task}
 use Rattle.searches.specs.Searches.{duty_at, first_duty, duty_or, ended}
 use Rattle.searches.specs.declared.search.Duty.{Duty}
@@ -23,7 +21,7 @@ use Rattle.searches.specs.declared.search.Task as search
 use Rattle.sweeping.specs.Sweeps as sweeps
 use Rattle.deeds.specs.Told.{sweep_deed}
 use Rattle.deeds.proofs.Places.{none_some}
-use Rattle.deeds.proofs.Performing.{Suits, performed_did}
+use Rattle.deeds.proofs.Performing.{performed_did}
 
 -- the place that a duty was found at
 pub record FoundAt (t i : ℕ) (ss : List Standing) (task : search.Task) : Type 0 where

@@ -10,7 +10,7 @@ use Rattle.delivery.specs.declared.fault.AnswerFault.{AnswerFault}
 use Rattle.delivery.specs.declared.handing_out.HandOut.{HandOut}
 use Rattle.sweeping.specs.declared.sweep.Swept.{Swept}
 use Rattle.office.specs.declared.oldest.Given.{Given}
-use Rattle.account.specs.Deeds.{Whereabouts, Deed}
+use Rattle.account.specs.Deeds.{Deed}
 use Rattle.account.specs.Deeds.Whereabouts.{waiting, out, inbox}
 use Rattle.account.specs.Deeds.Deed.{nothing, taken_in, turned, passed_on, reported, collected, noticed, dropped}
 

@@ -1,9 +1,9 @@
 -- What an arrival did, from the reading of its record on.
-use Rattle.std.proofs.Common.{◌≡◌, ℕ, ◌<◌, Bool, true, false, cond, ◌||◌, eqb, ltb, List, Ok, Err, Result, sym, refl, ap, ◌∙◌, subst, inl, arith, ltb-true, eqb-true}
+use Rattle.std.proofs.Common.{◌≡◌, ℕ, ◌<◌, Bool, true, false, cond, eqb, ltb, List, Ok, Err, Result, refl, subst, inl, ltb-true, eqb-true}
 use Rattle.text.specs.Said.{Said}
 use Rattle.envelope.specs.Results.{viewed}
 use Rattle.envelope.specs.Views.{Whole}
-use Rattle.envelope.specs.Life.{end_of, live_at}
+use Rattle.envelope.specs.Life.{end_of}
 use Rattle.envelope.specs.Decoding.{decode}
 use Rattle.message_rows.specs.declared.message.MessageRow.{MessageRow}
 use Rattle.status_rows.specs.declared.status.StatusRow.{StatusRow}

@@ -1,6 +1,5 @@
 -- The time in a record of bytes is of 32 bits.
-use Rattle.std.proofs.Common.{◌≡◌, ℕ, ◌+◌, ◌*◌, ◌^◌, ◌<◌, List, get_or, sym, ap, subst, arith}
-use Rattle.envelope.specs.Integers.{u32_at}
+use Rattle.std.proofs.Common.{ℕ, ◌+◌, ◌*◌, ◌^◌, ◌<◌, List, get_or, sym, ap, subst, arith}
 use Rattle.envelope.specs.Views.{Whole}
 use Rattle.envelope_reading.proofs.Laws.{all_checked}
 use Rattle.writing.specs.Trips.{Bytes}

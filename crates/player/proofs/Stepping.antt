@@ -1,23 +1,19 @@
 -- Each call keeps the relay as the account of its calls has it.
-use Rattle.std.proofs.Common.{◌≡◌, ℕ, max, Bool, true, false, cond, List, [], ◌∷◌, ◌++◌, Some, None, Ok, Err, Option, Result, sym, refl, ap, ◌∙◌, subst}
+use Rattle.std.proofs.Common.{◌≡◌, ℕ, max, true, false, cond, List, [], ◌∷◌, ◌++◌, Some, None, Ok, Err, Option, Result, sym, refl, subst, Bor}
 use Rattle.std.proofs.lemmas.List.Sums.{fold_push}
 use Rattle.envelope.specs.Decoding.{decode}
-use Rattle.message_rows.specs.declared.message.MessageRow.{MessageRow}
-use Rattle.relay.specs.States.{State, timed}
-use Rattle.standing.specs.Standings.{standing_at}
+use Rattle.relay.specs.States.{timed}
 use Rattle.connection.specs.Admissions.{opened, admission, may_send}
 use Rattle.connection.specs.declared.admitted.Admitted.{Admitted}
 use Rattle.connection.specs.declared.admission.NotAdmitted.{NotAdmitted}
 use Rattle.connections.specs.Slots.{admitted_at, is_free}
 use Rattle.routing.specs.declared.row.RouteRow.{RouteRow}
-use Rattle.delivery.specs.Outcomes.{reply_of}
 use Rattle.account.specs.Accounts.{Account, clocked, book, empty}
 use Rattle.account.specs.Deeds.{Deed}
-use Rattle.account.specs.Faith.{Faithful}
 use Rattle.account.specs.Laws.{Laws}
 use Rattle.account.proofs.Kept.{clocked_faithful, kept}
 use Rattle.account.proofs.Lawful.{lawful}
-use Rattle.deeds.specs.Ranges.{InRange, AllInRange, Done}
+use Rattle.deeds.specs.Ranges.{InRange, Done}
 use Rattle.deeds.proofs.HandingOut.{hand_out_did}
 use Rattle.deeds.proofs.Answering.{answer_did}
 use Rattle.deeds.proofs.Sweeping.{sweep_did}
@@ -25,7 +21,7 @@ use Rattle.deeds.proofs.Giving.{collect_did, notice_did}
 use Rattle.player.specs.declared.call.Call.{Call}
 use Rattle.player.specs.declared.call.Call.TheVariants as call
 use Rattle.player.specs.Answers.{Answer}
-use Rattle.player.specs.Answers.Answer.{no_call, of_admission, of_closing, of_arrival, of_hand_out, of_reading, of_answer, of_sweep, of_collection, of_notice}
+use Rattle.player.specs.Answers.Answer.{no_call}
 use Rattle.player.specs.Steps.{World, Stepped, stepped, admitted_by, arrived_on, closed_on, with_state, after}
 use Rattle.player.specs.Runs.{Event, event, enter, book_event, account, Agrees, Brings}
 use Rattle.player.proofs.Arriving.{arrival_did}
@@ -50,7 +46,7 @@ module _ (a : Account) (w : World) (g : Agrees a w) where
   admits c clock number (Ok x) buf h e = subst (λ t. Agrees (clocked a t) (admitted_by (with_state w (timed w.state clock)) number (Ok x) buf).world) e (record { faithful = h.faithful; in_range = h.in_range })
   admits c clock number (Err refusal) buf h e = subst (λ t. Agrees (clocked a t) (admitted_by (with_state w (timed w.state clock)) number (Err refusal) buf).world) e h
 
-  arrives : (clock number : ℕ) (rec : _) (routes : _) (o : Option Admitted) (buf : List ℕ) → InRange rec.now
+  arrives : (clock number : ℕ) (rec : Bor (List ℕ)) (routes : Bor (List RouteRow)) (o : Option Admitted) (buf : List ℕ) → InRange rec.now
       → Keeps (call.Arrive clock number rec routes) (arrived_on w o clock rec.now routes.now buf)
   arrives clock number rec routes (Some x) buf short =
       done clock _ _ (arrival_did (clocked a clock) (timed w.state clock) w.messages w.statuses (read_clock clock).faithful g.in_range rec.now short (may_send x) x.neighbour routes.now (decode rec.now) refl)

@@ -1,6 +1,5 @@
 -- The account of a run: what an observer books of each call and its answer, and what ties it to the relay.
-use Rattle.std.specs.Prelude.{◌≡◌, ℕ, List, [], ◌∷◌, fold}
-use Rattle.relay.specs.States.{State}
+use Rattle.std.specs.Prelude.{ℕ, List, [], fold}
 use Rattle.account.specs.Accounts.{Account, empty, clocked, book}
 use Rattle.account.specs.Deeds.{Deed}
 use Rattle.account.specs.Deeds.Deed.{nothing}

@@ -1,5 +1,5 @@
 -- What each call gives back, and the world after it: the relay, its connections and the two ledgers.
-use Rattle.std.specs.Prelude.{ℕ, max, Bool, cond, List, Some, None, Ok, Err, Option, Result}
+use Rattle.std.specs.Prelude.{ℕ, max, cond, List, Some, None, Ok, Err, Option, Result}
 use Rattle.text.specs.Said.{Said}
 use Rattle.message_rows.specs.declared.message.MessageRow.{MessageRow}
 use Rattle.status_rows.specs.declared.status.StatusRow.{StatusRow}
@@ -16,10 +16,8 @@ use Rattle.arrival.specs.Arrivals.{Outcome, arrival}
 use Rattle.delivery.specs.HandOuts.{hand_out_answer, hand_out_state}
 use Rattle.delivery.specs.Readings.{read_answer, read_buffer}
 use Rattle.delivery.specs.Answers.{answer_told, answer_state}
-use Rattle.delivery.specs.declared.outcome.Outcome as outcomes
 use Rattle.sweeping.specs.Sweeps.{sweep_answer, sweep_state}
 use Rattle.office.specs.Gifts.{oldest_answer, oldest_buffer, oldest_state}
-use Rattle.searches.specs.declared.search.Wanted.{Wanted}
 use Rattle.searches.specs.declared.search.Wanted.TheVariants.{Entry, Notified}
 use Rattle.player.specs.declared.call.Call.{Call}
 use Rattle.player.specs.declared.call.Call.TheVariants as call

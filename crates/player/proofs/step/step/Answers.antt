@@ -1,4 +1,3 @@
-use Rattle.player.specs.Runs.{account, event}
 use Rattle.player.proofs.Stepping.{longer, laws_hold}
 use Rattle.player.proofs.step.step.Goals as goal
 

@@ -1,6 +1,3 @@
-use Rattle.std.proofs.Common.{sym, subst, rules}
-use Rattle.text.specs.Addresses.{address_text}
-use Rattle.relay.specs.States.{fresh}
 use Rattle.player.proofs.Beginning.{agrees_at_first}
 use Rattle.player.proofs.player.Player.new.Goals as goal
 
