@@ -1,5 +1,5 @@
 -- The log of a run, as the account reads it.
-use Rattle.std.specs.Prelude.{ℕ, min, List, take}
+use Rattle.std.specs.Prelude.{ℕ, min, take}
 use Rattle.player.specs.declared.call.Call.{Call}
 use Rattle.player.specs.declared.call.Call.TheVariants as call
 use Rattle.player.specs.Answers.{answer_of}

@@ -1,4 +1,4 @@
-use Rattle.std.proofs.Common.{refl, arith, rules}
+use Rattle.std.proofs.Common.{refl, arith}
 use Rattle.playing.proofs.Entries.{front}
 use Rattle.playing.proofs.entry.enter.Goals as goal
 

@@ -1,4 +1,4 @@
-use Rattle.std.proofs.Common.{map, take, arith, rules}
+use Rattle.std.proofs.Common.{map, take, arith}
 use Rattle.playing.specs.Logs.{event_of}
 use Rattle.playing.proofs.Entries.{brought_more, agrees_more, all_played}
 use Rattle.playing.proofs.play.play.Goals as goal

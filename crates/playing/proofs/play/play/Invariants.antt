@@ -1,4 +1,4 @@
-use Rattle.std.proofs.Common.{◌≡◌, map, length, take}
+use Rattle.std.proofs.Common.{◌≡◌, map, take}
 use Rattle.relay.specs.States.{view}
 use Rattle.player.specs.Steps.{world}
 use Rattle.player.specs.Runs.{account, Agrees}
