@@ -1,5 +1,5 @@
 -- Every line is one text behind what was there.
-use Rattle.std.proofs.Common.{◌≡◌, ℕ, List, [], ◌∷◌, ◌++◌, codes, decimal, ap, ◌∙◌, append_assoc}
+use Rattle.std.proofs.Common.{[], ◌∷◌, ◌++◌, codes, decimal, ap, ◌∙◌, append_assoc}
 use Rattle.answer_pieces.specs.Pieces.{joined_groups}
 use Rattle.answer_pieces.proofs.Groups.{grouped_is, line_is}
 use Rattle.answers.specs.Answers.{answer_groups, end_groups, LinesStandBehind}
