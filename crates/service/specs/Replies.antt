@@ -1,5 +1,5 @@
 -- What the program replies to a call, and what becomes of its route table.
-use Rattle.std.specs.Prelude.{ℕ, Bool, cond, List, [], ◌∷◌, ◌++◌, length, Some, None, Ok, Err, Option, Result, nat_lt}
+use Rattle.std.specs.Prelude.{ℕ, cond, List, [], ◌∷◌, ◌++◌, length, Some, None, Ok, Err, Option, Result, nat_lt}
 use Rattle.text.specs.Said.{Said}
 use Rattle.text.specs.Faults.{text_refusal}
 use Rattle.text.specs.declared.fault.TextFault.{TextFault}

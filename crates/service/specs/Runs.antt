@@ -1,5 +1,5 @@
 -- A run of the program: what is written and counted for each line.
-use Rattle.std.specs.Prelude.{◌≡◌, ℕ, ◌+◌, ◌^◌, min, cond, ltb, List, [], Some, None, vec_items, Option}
+use Rattle.std.specs.Prelude.{◌≡◌, ℕ, ◌+◌, min, List, [], Some, None, vec_items, Option}
 use Rattle.answers.specs.Answers.{ToldAnswer, written, told, chosen, explained, refused, error, answer_onto}
 use Rattle.answers.specs.declared.counts.Counts.{Counts}
 use Rattle.arguments.specs.declared.fault.LineFault.TheVariants.{TooLong}
