@@ -12,7 +12,7 @@ arriving = record {
   taken_at_the_last_second = refl;
   waits_for_neighbour_1 = refl;
   refused_at_its_expiry = refl;
-  refused-moves-only-the-time = refl;
+  refused_moves_only_the_time = refl;
 }
 
 arriving_again : ArrivingAgain
@@ -47,7 +47,7 @@ receipted : Receipted
 unfolding padded taking_in message_taken write_answer
 receipted = record {
   reported = refl;
-  report-goes-back = refl;
+  report_goes_back = refl;
   report_length = refl;
   report_read = refl;
   passed_on_with_ar_0 = refl;

@@ -28,7 +28,7 @@ pub record Arriving : Type 0 where
   pub taken_at_the_last_second : answered (first 999939 berth_request) ≡ Ok (says 200 (0 ∷ []))
   pub waits_for_neighbour_1 : (first 999939 berth_request).state ≡ with_place0 999939 0 (Waiting 1 999939 0 about_request) request
   pub refused_at_its_expiry : answered (first 999940 berth_request) ≡ Err (says 405 [])
-  pub refused-moves-only-the-time :
+  pub refused_moves_only_the_time :
       first 999940 berth_request ≡ outcome (Err (says 405 [])) (timed new_relay 999940) freed_messages freed_statuses
 
 -- once it was taken in
@@ -56,7 +56,7 @@ pub record SweptOut : Type 0 where
 -- the neighbour answers 100
 pub record Receipted : Type 0 where
   pub reported : receipt (out_since100 berth_request) ≡ Ok (Reported 100)
-  pub report-goes-back :
+  pub report_goes_back :
       after_receipt (out_since100 berth_request) ≡ with_place0 100 1 (Waiting 5 100 0 about_report) (encode receipt_report)
   pub report_length : length (at 0 (after_receipt (out_since100 berth_request)).places) ≡ 65
   pub report_read : code_and_addressee (decode (at 0 (after_receipt (out_since100 berth_request)).places)) ≡ Ok (says 100 (codes "AAA:F1"))
