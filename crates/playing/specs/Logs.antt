@@ -18,9 +18,13 @@ room_of (call.Sweep clock) = 0
 room_of (call.Collect clock room) = room
 room_of (call.Notice clock room) = room
 
+-- how much of its page a call uses
+abbrev pub front_of : Call → ℕ
+front_of c = min (room_of c) 2048
+
 -- an entry as an event: the buffer is the front of the page
 abbrev pub event_of : Entry → Event
-event_of e = event e.call (answer_of e.told) (take (min (room_of e.call) 2048) e.page)
+event_of e = event e.call (answer_of e.told) (take (front_of e.call) e.page)
 
 abbrev pub call_of : Entry → Call
 call_of e = e.call

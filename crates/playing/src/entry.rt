@@ -1,9 +1,11 @@
 // An entry of the log of a run.
 ghost use Rattle.std.specs.Prelude.{◌≡◌, min, List, [], ◌∷◌, ◌++◌};
 ghost use Rattle.relay.specs.States.{view};
-ghost use Rattle.player.specs.Steps.{world};
+ghost use Rattle.player.specs.Answers.{answer_of};
+ghost use Rattle.player.specs.Steps.{world, after};
 ghost use Rattle.player.specs.Runs.{Event, account, Agrees};
-ghost use Rattle.playing.specs.Logs.{room_of, event_of};
+ghost use Rattle.playing.specs.Logs.{room_of, front_of, event_of};
+ghost use Rattle.playing.specs.Plays.{entered};
 
 use message_rows::message::MessageRow;
 use player::call::Call;
@@ -36,7 +38,14 @@ fn room_of(call: Call<'_>) -> usize
     }
 }
 
-// Makes one call, and enters it.
+// How much of its page a call uses.
+fn front_of(call: Call<'_>) -> usize
+    ensures { result ≡ front_of call.entry }
+{
+    room_of(call).min(PAGE)
+}
+
+// Makes one call with the front of its page as the buffer, and enters it.
 pub(crate) fn enter<'a, S: Spool>(
     player: &mut Player<S>,
     messages: &mut [MessageRow],
@@ -44,10 +53,11 @@ pub(crate) fn enter<'a, S: Spool>(
     call: Call<'a>,
     entry: &mut Entry<'a>,
 )
+    ensures outcome { after (answer_of entry.new.told) (world (view S.held player.new.relay) player.new.connections.slots messages.new statuses.new) entry.new.page ≡ entered (world (view S.held player.old.relay) player.old.connections.slots messages.old statuses.old) call.entry entry.old.page }
     ensures brought { entry.new.call ≡ call.entry }
     ensures account_goes_on { (log : List Event) → Agrees (account log) (world (view S.held player.old.relay) player.old.connections.slots messages.old statuses.old) → Agrees (account (log ++ (event_of entry.new ∷ []))) (world (view S.held player.new.relay) player.new.connections.slots messages.new statuses.new) }
 {
-    let room = room_of(call).min(PAGE);
+    let room = front_of(call);
     entry.call = call;
     entry.told = step(player, messages, statuses, call, &mut entry.page[0..room]);
 }

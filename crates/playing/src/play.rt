@@ -1,9 +1,12 @@
 // A whole list of calls.
-ghost use Rattle.std.specs.Prelude.{◌≡◌, ◌<◌, map, length, take, MatchResult};
+ghost use Rattle.std.specs.Prelude.{◌≡◌, ◌<◌, map, length, take, MatchResult, IfOk};
+ghost use Rattle.text.specs.Addresses.{address_text};
 ghost use Rattle.relay.specs.States.{view};
 ghost use Rattle.account.specs.Laws.{Laws};
+ghost use Rattle.player.specs.Steps.{world};
 ghost use Rattle.player.specs.Runs.{account};
 ghost use Rattle.playing.specs.Logs.{call_of, event_of};
+ghost use Rattle.playing.specs.Plays.{begun, Played};
 
 use crate::entry::{Entry, enter};
 use message_rows::message::MessageRow;
@@ -23,6 +26,7 @@ pub fn play<'a, S: Spool>(
     calls: &[Call<'a>],
     log: &mut [Entry<'a>],
 ) -> Result<Player<S>, S>
+    ensures outcome { IfOk result (λ player. Played (begun (address_text address) (S.held spool) (length messages.old) (length statuses.old)) calls.now log.old log.new (world (view S.held player.relay) player.connections.slots messages.new statuses.new)) }
     ensures played { MatchResult result (λ player. (map call_of (take (length calls.now) log.new) ≡ calls.now) × Laws (account (map event_of (take (length calls.now) log.new))) (view S.held player.relay)) (λ s. (s ≡ spool) × (length log.old < length calls.now) × (log.new ≡ log.old) × (messages.new ≡ messages.old) × (statuses.new ≡ statuses.old)) }
 {
     if log.len() < calls.len() {

@@ -10,9 +10,10 @@ ghost use Rattle.service.specs.Replies.{read_reply, write_reply, way_reply, reas
 ghost use Rattle.service.specs.Runs.{Tells};
 
 use answers::answer::Verb;
-use answers::line::{write_error, write_reason, write_record, write_refusal, write_way};
+use answers::line::{
+    write_envelope, write_error, write_reason, write_record, write_refusal, write_way,
+};
 use arguments::fault::LineFault;
-use envelope_line::line::write_envelope;
 use envelope_reading::reading::read;
 use keyed::fields::FieldText;
 use reason::status::reason;
