@@ -1,5 +1,5 @@
 -- What reading a record answers, and how an answer in the program is told as one.
-use Rattle.std.specs.Prelude.{ℕ, cond, List, [], Ok, Err, Result}
+use Rattle.std.specs.Prelude.{◌≡◌, ℕ, cond, List, [], Ok, Err, Result}
 use Rattle.text.specs.Said.{Said, says}
 pub use Rattle.envelope.specs.Results.{viewed, and_then, unless}
 use Rattle.envelope.specs.Integers.{u16_at}
@@ -29,6 +29,10 @@ told r = viewed held record_refusal r
 
 abbrev pub told_kind : Result Kind RecordFault → Result ℕ Said
 told_kind r = viewed kind_number record_refusal r
+
+-- the kind that the number stands for, or the refusal where it stands for none
+abbrev pub NumbersKind : ℕ → Result Kind RecordFault → Type 0
+NumbersKind n r = told_kind r ≡ cond (kind_ok n) (Ok n) (Err (says 402 []))
 
 abbrev pub told_check : Result (Unit {0}) FieldFault → Result (Unit {0}) Said
 told_check r = viewed (λ x. x) field_refusal r

@@ -45,15 +45,18 @@ pub record Row : Type 0 where
 abbrev pub row : ℕ → ℕ → Bool → Row
 row n s b = record { field = n; start = s; ok = b }
 
--- the fields at fixed offsets
-abbrev pub fixed_rows : List ℕ → List Row
-fixed_rows r =
-    row 4 8 (timeout_ok (u16_at r 8) (u32_at r 4))
-    ∷ row 5 10 (nat_le (slice_index r 10) 1)
-    ∷ row 6 11 (nat_le (slice_index r 11) 4)
-    ∷ row 7 12 (code_ok (u16_at r 2) (u16_at r 12))
-    ∷ row 8 14 (is_operation_number (on_in r).bytes)
+-- the fields at fixed offsets, whether they were read or are to be written
+abbrev pub rows_of_fixed : (kind todt to ar vb code : ℕ) → List ℕ → List Row
+rows_of_fixed kind todt to ar vb code on =
+    row 4 8 (timeout_ok to todt)
+    ∷ row 5 10 (nat_le ar 1)
+    ∷ row 6 11 (nat_le vb 4)
+    ∷ row 7 12 (code_ok kind code)
+    ∷ row 8 14 (is_operation_number on)
     ∷ []
+
+abbrev pub fixed_rows : List ℕ → List Row
+fixed_rows r = rows_of_fixed (u16_at r 2) (u32_at r 4) (u16_at r 8) (slice_index r 10) (slice_index r 11) (u16_at r 12) (on_in r).bytes
 
 -- the fields with their length before them
 abbrev pub moving_rows : List ℕ → List Row

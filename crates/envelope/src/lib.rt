@@ -3,6 +3,7 @@
 #![tactic(auto)]
 
 pub mod fault;
+pub mod fixed;
 pub mod life;
 pub mod limits;
 pub mod parts;

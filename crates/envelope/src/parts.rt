@@ -2,6 +2,9 @@
 ghost use Rattle.std.specs.Prelude.{◌≡◌};
 ghost use Rattle.envelope.specs.Views.{kind_number, seen, view, held};
 ghost use Rattle.envelope.specs.Originators.{originator_of};
+ghost use Rattle.envelope.specs.Decoding.{NumbersKind};
+
+use crate::fault::RecordFault;
 
 // Some bytes of a record, and the offset of the first.
 #[derive(Clone, Copy)]
@@ -28,6 +31,33 @@ pub struct Parts<'a> {
 pub enum Kind {
     Message,
     Status,
+}
+
+impl Kind {
+    // The number that stands for the kind in a record.
+    pub fn number(self) -> u16
+        ensures { result ≡ kind_number self }
+    {
+        match self {
+            Kind::Message => 1,
+            Kind::Status => 2,
+        }
+    }
+}
+
+// No other number stands for a kind.
+impl TryFrom<u16> for Kind {
+    type Error = RecordFault;
+
+    ghost try_from_gives = { NumbersKind };
+
+    fn try_from(number: u16) -> Result<Kind, RecordFault> {
+        match number {
+            1 => Ok(Kind::Message),
+            2 => Ok(Kind::Status),
+            _ => Err(RecordFault::Kind),
+        }
+    }
 }
 
 // A status carries its code.

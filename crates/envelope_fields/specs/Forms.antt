@@ -1,18 +1,11 @@
 -- The fields that have a form, as rows of a table: each with the offset where it starts once it is written.
-use Rattle.std.specs.Prelude.{◌≡◌, ◌+◌, ◌≤◌, List, [], ◌∷◌, ◌++◌, length, nat_le}
-use Rattle.text.specs.Forms.{is_address, is_dataflow, is_operation_number, is_contacts}
-use Rattle.envelope.specs.Limits.{timeout_ok, code_ok}
-use Rattle.envelope.specs.Layout.{Row, row}
+use Rattle.std.specs.Prelude.{◌≡◌, ◌+◌, ◌≤◌, List, [], ◌∷◌, ◌++◌, length}
+use Rattle.text.specs.Forms.{is_address, is_dataflow, is_contacts}
+use Rattle.envelope.specs.Layout.{Row, row, rows_of_fixed}
 use Rattle.envelope_fields.specs.Plain.{Plain}
 
 abbrev pub fixed_rows : Plain → List Row
-fixed_rows d =
-    row 4 8 (timeout_ok d.to d.todt)
-    ∷ row 5 10 (nat_le d.ar 1)
-    ∷ row 6 11 (nat_le d.vb 4)
-    ∷ row 7 12 (code_ok d.kind d.code)
-    ∷ row 8 14 (is_operation_number d.on)
-    ∷ []
+fixed_rows d = rows_of_fixed d.kind d.todt d.to d.ar d.vb d.code d.on
 
 abbrev pub moving_rows : Plain → List Row
 moving_rows d =

@@ -1,60 +1,28 @@
 // The forms of fields that are to be written, checked in their order.
 ghost use Rattle.std.specs.Prelude.{◌≡◌, OnOk};
-ghost use Rattle.envelope.specs.Limits.{code_ok};
 ghost use Rattle.envelope.specs.Decoding.{checked, told_check};
-ghost use Rattle.envelope_fields.specs.Plain.{plain, content_kind, content_code};
+ghost use Rattle.envelope_fields.specs.Plain.{plain};
 ghost use Rattle.envelope_fields.specs.Forms.{fixed_rows, moving_rows, rows, Measured};
 
-use crate::fields::{Content, Fields};
+use crate::fields::Fields;
 use envelope::fault::FieldFault;
-use envelope::limits::{is_code, is_timeout};
-use envelope::parts::Kind;
-use text::forms::{is_address, is_contacts, is_dataflow, is_operation_number};
-
-fn is_content(content: Content) -> bool
-    ensures { result ≡ code_ok (content_kind content) (content_code content) }
-{
-    match content {
-        Content::Message => true,
-        Content::Status(code) => is_code(Kind::Status, code),
-    }
-}
+use envelope::fixed::Fixed;
+use text::forms::{is_address, is_contacts, is_dataflow};
 
 // Fields 4 to 8.
 fn check_fixed(fields: Fields<'_>) -> Result<(), FieldFault>
     ensures { told_check result ≡ checked (fixed_rows (plain fields.entry)) }
 {
-    if !is_timeout(fields.to, fields.todt) {
-        return Err(FieldFault {
-            field: 4,
-            offset: 8,
-        });
-    }
-    if fields.ar > 1 {
-        return Err(FieldFault {
-            field: 5,
-            offset: 10,
-        });
-    }
-    if fields.vb > 4 {
-        return Err(FieldFault {
-            field: 6,
-            offset: 11,
-        });
-    }
-    if !is_content(fields.content) {
-        return Err(FieldFault {
-            field: 7,
-            offset: 12,
-        });
-    }
-    if !is_operation_number(fields.on) {
-        return Err(FieldFault {
-            field: 8,
-            offset: 14,
-        });
-    }
-    Ok(())
+    let fixed = Fixed {
+        kind: fields.content.kind(),
+        todt: fields.todt,
+        to: fields.to,
+        ar: fields.ar,
+        vb: fields.vb,
+        code: fields.content.code(),
+        on: fields.on,
+    };
+    fixed.check()
 }
 
 // Fields 9 to 12, each where it starts once those before it are written.

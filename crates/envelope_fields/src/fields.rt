@@ -1,15 +1,37 @@
 // The fields of an envelope, apart from any record.
 ghost use Rattle.std.specs.Prelude.{◌≡◌};
 ghost use Rattle.envelope.specs.Views.{held};
-ghost use Rattle.envelope_fields.specs.Plain.{plain, plain_of};
+ghost use Rattle.envelope.specs.Views.{kind_number};
+ghost use Rattle.envelope_fields.specs.Plain.{plain, plain_of, content_kind, content_code};
 
-use envelope::parts::{Envelope, Parts};
+use envelope::parts::{Envelope, Kind};
 
 // A status carries its code.
 #[derive(Clone, Copy, PartialEq, Eq, Debug)]
 pub enum Content {
     Message,
     Status(u16),
+}
+
+impl Content {
+    pub fn kind(self) -> Kind
+        ensures { kind_number result ≡ content_kind self }
+    {
+        match self {
+            Content::Message => Kind::Message,
+            Content::Status(_) => Kind::Status,
+        }
+    }
+
+    // 0 for a message, which has none.
+    pub fn code(self) -> u16
+        ensures { result ≡ content_code self }
+    {
+        match self {
+            Content::Message => 0,
+            Content::Status(code) => code,
+        }
+    }
 }
 
 // What is to be written as a record: its length and the lengths of its parts follow.
@@ -29,24 +51,26 @@ pub struct Fields<'a> {
 }
 
 // The fields of an envelope that was read, to write it again.
-pub fn fields_of(envelope: Envelope<'_>) -> Fields<'_>
-    ensures { plain result ≡ plain_of (held envelope.entry) }
-{
-    let (content, parts) = match envelope {
-        Envelope::Message(parts) => (Content::Message, parts),
-        Envelope::Status(code, parts) => (Content::Status(code), parts),
-    };
-    Fields {
-        content,
-        todt: parts.todt,
-        to: parts.to,
-        ar: parts.ar,
-        vb: parts.vb,
-        on: parts.on.bytes,
-        fr: parts.fr.bytes,
-        ad: parts.ad.bytes,
-        df: parts.df.bytes,
-        ct: parts.ct.bytes,
-        rest: parts.rest.bytes,
+impl<'a> From<Envelope<'a>> for Fields<'a> {
+    ghost from_gives = { λ e r. plain r ≡ plain_of (held e) };
+
+    fn from(envelope: Envelope<'a>) -> Fields<'a> {
+        let (content, parts) = match envelope {
+            Envelope::Message(parts) => (Content::Message, parts),
+            Envelope::Status(code, parts) => (Content::Status(code), parts),
+        };
+        Fields {
+            content,
+            todt: parts.todt,
+            to: parts.to,
+            ar: parts.ar,
+            vb: parts.vb,
+            on: parts.on.bytes,
+            fr: parts.fr.bytes,
+            ad: parts.ad.bytes,
+            df: parts.df.bytes,
+            ct: parts.ct.bytes,
+            rest: parts.rest.bytes,
+        }
     }
 }

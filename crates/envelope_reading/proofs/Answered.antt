@@ -4,12 +4,19 @@ use Rattle.std.proofs.lemmas.Bool.Decides.{nat_tests}
 use Rattle.text.specs.Said.{Said}
 use Rattle.envelope.specs.Integers.{u16_at}
 use Rattle.envelope.specs.Limits.{code_ok}
-use Rattle.envelope.specs.Views.{Fields, Whole, whole}
-use Rattle.envelope.specs.Layout.{fixed_rows, moving_rows, rows, first_broken, fields}
+use Rattle.envelope.specs.Views.{Fields, Whole, whole, kind_number}
+use Rattle.envelope.specs.Layout.{rows_of_fixed, fixed_rows, moving_rows, rows, first_broken, fields}
 use Rattle.envelope.specs.Results.{and_then, unless}
 use Rattle.envelope.specs.Decoding.{checked, decode_kind, decode}
 use Rattle.envelope.proofs.Oks.{unless_err, unless_ok}
 use Rattle.envelope.proofs.Rows.{broken_front, whole_front, all_ok}
+use Rattle.envelope.specs.declared.fixed.Fixed.{Fixed}
+use Rattle.envelope_reading.specs.Forms.{FixedIn}
+
+-- the check of the fields that were read at fixed offsets is the record's
+pub same_check : (r : List ℕ) (f : Fixed) → FixedIn r f → (x : Result (Unit {0}) Said)
+    → x ≡ checked (rows_of_fixed (kind_number f.kind) f.todt f.to f.ar f.vb f.code f.on.now) → x ≡ checked (fixed_rows r)
+same_check r f h x e = e ∙ (λ i. checked (rows_of_fixed (h.kind i) (h.todt i) (h.to i) (h.ar i) (h.vb i) (h.code i) (h.on i)))
 
 module _ (r : List ℕ) (k : ℕ) (kind : ◌≡◌ {A = Result ℕ Said} (Ok k) (decode_kind r)) where
   abbrev finish : Option Said → Result Whole Said

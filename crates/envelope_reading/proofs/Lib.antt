@@ -1,3 +1,2 @@
-mod Cuts
 mod Answered
 pub mod Laws

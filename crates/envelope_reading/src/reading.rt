@@ -6,7 +6,7 @@ ghost use Rattle.envelope.specs.Views.{held, kind_number};
 ghost use Rattle.envelope.specs.Decoding.{decode_kind, decode, told, told_kind};
 ghost use Rattle.envelope.specs.Lawful.{Sized, Lawful, Placed};
 
-use crate::fields::{check_fixed, parts_of};
+use crate::fields::{fixed_of, parts_of};
 use crate::integers::u16_at;
 use envelope::fault::RecordFault;
 use envelope::parts::{Envelope, Kind};
@@ -28,22 +28,19 @@ pub fn kind_of(rec: &[u8]) -> Result<Kind, RecordFault>
     if !is_length(rec) {
         return Err(RecordFault::Length);
     }
-    match u16_at(rec, 2) {
-        1 => Ok(Kind::Message),
-        2 => Ok(Kind::Status),
-        _ => Err(RecordFault::Kind),
-    }
+    Kind::try_from(u16_at(rec, 2))
 }
 
 fn parse(rec: &[u8]) -> Result<Envelope<'_>, RecordFault>
     ensures { told result ≡ decode rec.now }
 {
     let kind = kind_of(rec)?;
-    check_fixed(rec, kind)?;
-    let parts = parts_of(rec)?;
+    let fixed = fixed_of(rec, kind);
+    fixed.check()?;
+    let parts = parts_of(rec, fixed)?;
     match kind {
         Kind::Message => Ok(Envelope::Message(parts)),
-        Kind::Status => Ok(Envelope::Status(u16_at(rec, 12), parts)),
+        Kind::Status => Ok(Envelope::Status(fixed.code, parts)),
     }
 }
 

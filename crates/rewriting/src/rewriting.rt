@@ -3,7 +3,7 @@ ghost use Rattle.std.specs.Prelude.{◌≡◌, length};
 ghost use Rattle.rewriting.specs.Rewrites.{told_rewrite, rewrite_answer, rewrite_after, Rewritten};
 
 use crate::fault::RewriteFault;
-use envelope_fields::fields::fields_of;
+use envelope_fields::fields::Fields;
 use envelope_reading::reading::read;
 use writing::writing::write;
 
@@ -12,7 +12,7 @@ fn transcribe(rec: &[u8], buf: &mut [u8]) -> Result<usize, RewriteFault>
     ensures after { buf.new ≡ rewrite_after rec.now buf.old }
 {
     let envelope = read(rec)?;
-    let n = write(fields_of(envelope), buf)?;
+    let n = write(Fields::from(envelope), buf)?;
     Ok(n)
 }
 

@@ -1,6 +1,6 @@
 // Writing fields as a record into a lent buffer.
 ghost use Rattle.std.specs.Prelude.{◌≡◌, ◌≤◌, length, IfOk};
-ghost use Rattle.envelope_fields.specs.Plain.{plain, content_kind, content_code};
+ghost use Rattle.envelope_fields.specs.Plain.{plain};
 ghost use Rattle.envelope_fields.specs.Forms.{Measured};
 ghost use Rattle.writing.specs.Buffers.{filled};
 ghost use Rattle.writing.specs.Encoding.{size, encode};
@@ -10,25 +10,7 @@ ghost use Rattle.writing.specs.Trips.{ReadsBack, OwnBytes};
 use crate::buffer::{put, put_field, put_u16, put_u32};
 use crate::fault::WriteFault;
 use envelope_fields::check::check;
-use envelope_fields::fields::{Content, Fields};
-
-fn kind_number(content: Content) -> u16
-    ensures { result ≡ content_kind content }
-{
-    match content {
-        Content::Message => 1,
-        Content::Status(_) => 2,
-    }
-}
-
-fn code_number(content: Content) -> u16
-    ensures { result ≡ content_code content }
-{
-    match content {
-        Content::Message => 0,
-        Content::Status(code) => code,
-    }
-}
+use envelope_fields::fields::Fields;
 
 // The length of the record.
 fn size_of(fields: Fields<'_>) -> usize
@@ -45,11 +27,11 @@ fn fill(fields: Fields<'_>, n: u16, buf: &mut [u8])
     ensures { buf.new ≡ filled (encode (plain fields.entry)) buf.old }
 {
     put_u16(buf, 0, n);
-    put_u16(buf, 2, kind_number(fields.content));
+    put_u16(buf, 2, fields.content.kind().number());
     put_u32(buf, 4, fields.todt);
     put_u16(buf, 8, fields.to);
     put(buf, 10, &[fields.ar, fields.vb]);
-    put_u16(buf, 12, code_number(fields.content));
+    put_u16(buf, 12, fields.content.code());
     put(buf, 14, fields.on);
     let ad = put_field(buf, 34, fields.fr);
     let df = put_field(buf, ad, fields.ad);
