@@ -4,7 +4,7 @@ use Rattle.std.proofs.lemmas.Bool.{and_parts, leb-true, eqb-true, eqb-false, tru
 use Rattle.std.proofs.lemmas.List.{length-take, length-drop}
 use Rattle.envelope.specs.Views.{Seen}
 use Rattle.envelope.specs.Lawful.{PartOf}
-use Rattle.reason.specs.Sheets.{length_at, code_at, text_at, stands_at, text_from, text_of, First, ended, here, later}
+use Rattle.reason.specs.Sheets.{Lined, line_at, length_at, code_at, text_at, stands_at, text_from, text_of, First, ended, here, later}
 
 module _ (sheet : List ℕ) where
   -- what a line that stands is long, and where it ends
@@ -15,6 +15,26 @@ module _ (sheet : List ℕ) where
   none_past : (at : ℕ) → length sheet ≤ at → (b : Bool) → stands_at sheet at ≡ b → b ≡ false
   none_past at h false e = refl
   none_past at h true e = let s = stands_is at e in absurd (let x = s.0 in let y = s.1 in omega arith)
+
+  -- the line at `at`, where one stands
+  abbrev pub whole_line : ℕ → Lined
+  whole_line at = record { code = code_at sheet at; text = text_at sheet at; next = at + length_at sheet at }
+
+  line_by : (at : ℕ) (l : Lined) (b : Bool) → stands_at sheet at ≡ b → ◌≡◌ {A = Option Lined} (Some l) (cond b (Some (whole_line at)) None)
+      → (stands_at sheet at ≡ true) × (l ≡ whole_line at)
+  line_by at l true e h = (e, cc)
+  line_by at l false e h = let z : ◌≡◌ {A = ℕ} 0 1 = cc in absurd (omega arith)
+
+  -- a line that was read stands there
+  pub line_is : (at : ℕ) (l : Lined) → ◌≡◌ {A = Option Lined} (Some l) (line_at sheet at) → (stands_at sheet at ≡ true) × (l ≡ whole_line at)
+  line_is at l h = line_by at l (stands_at sheet at) refl h
+
+  no_line_by : (at : ℕ) (b : Bool) → stands_at sheet at ≡ b → ◌≡◌ {A = Option Lined} None (cond b (Some (whole_line at)) None) → stands_at sheet at ≡ false
+  no_line_by at false e h = e
+  no_line_by at true e h = let z : ◌≡◌ {A = ℕ} 0 1 = cc in absurd (omega arith)
+
+  pub no_line : (at : ℕ) → ◌≡◌ {A = Option Lined} None (line_at sheet at) → stands_at sheet at ≡ false
+  no_line at h = no_line_by at (stands_at sheet at) refl h
 
   module _ (code : ℕ) where
     -- one line, by what the two tests say of it

@@ -3,6 +3,7 @@ use Rattle.std.specs.Prelude.{◌≡◌, ℕ, zero, suc, ◌+◌, ◌-◌, Bool,
 use Rattle.envelope.specs.Integers.{u16_at}
 use Rattle.envelope.specs.Views.{Seen, seen}
 use Rattle.envelope.specs.declared.parts.Part.{Part}
+use Rattle.reason.specs.declared.sheet.Line.{Line}
 
 -- the length that the line at `at` gives itself
 abbrev pub length_at : List ℕ → ℕ → ℕ
@@ -17,6 +18,19 @@ text_at sheet at = record { bytes = take (length_at sheet at - 4) (drop (at + 4)
 -- a line of 4 bytes or more that does not run past the sheet
 abbrev pub stands_at : List ℕ → ℕ → Bool
 stands_at sheet at = nat_le 4 (length_at sheet at) && nat_le (at + length_at sheet at) (length sheet)
+
+-- a line as it is read: its code, its text, and where the next line starts
+pub record Lined : Type 0 where
+  pub code : ℕ
+  pub text : Seen
+  pub next : ℕ
+
+abbrev pub seen_line : Line → Lined
+seen_line l = record { code = l.code; text = seen l.text; next = l.next }
+
+-- the line that stands at `at`, if one does
+abbrev pub line_at : List ℕ → ℕ → Option Lined
+line_at sheet at = cond (stands_at sheet at) (Some (record { code = code_at sheet at; text = text_at sheet at; next = at + length_at sheet at })) None
 
 -- the text of the first line with the code, of at most so many lines from the one at `at` on
 abbrev pub text_from : ℕ → List ℕ → ℕ → ℕ → Option Seen

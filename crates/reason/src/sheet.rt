@@ -1,53 +1,48 @@
 // The lines of a text sheet, searched for a code.
-ghost use Rattle.std.specs.Prelude.{◌≡◌, ◌+◌, ◌≤◌, length, IfSome};
-ghost use Rattle.envelope.specs.Integers.{u16_at};
+ghost use Rattle.std.specs.Prelude.{◌≡◌, ◌≤◌, length, IfSome};
+ghost use Rattle.std.specs.Option.{option_map};
 ghost use Rattle.envelope.specs.Lawful.{PartOf};
 ghost use Rattle.envelope.specs.Views.{seen};
-ghost use Rattle.reason.specs.Sheets.{length_at, text_at, stands_at, text_of, shown, First};
+ghost use Rattle.reason.specs.Sheets.{line_at, seen_line, text_of, shown, First};
 
 use envelope::parts::Part;
 
-fn u16_at(bytes: &[u8], at: usize) -> u16
-    requires { at + 2 ≤ length bytes.now }
-    ensures { result ≡ u16_at bytes.now at }
-{
-    u16::from_le_bytes([bytes[at], bytes[at + 1]])
+// A line: its code, its text, and where the next line starts.
+#[derive(Clone, Copy)]
+struct Line<'s> {
+    code: u16,
+    text: Part<'s>,
+    next: usize,
 }
 
-// Whether a line stands at `at`: of 4 bytes or more, and not past the sheet.
-fn stands_at(sheet: &[u8], at: usize) -> bool
+// The line that stands at `at`: of 4 bytes or more, and not past the sheet.
+fn line_at(sheet: &[u8], at: usize) -> Option<Line<'_>>
     requires { at ≤ length sheet.now }
-    ensures { result ≡ stands_at sheet.now at }
+    ensures { option_map seen_line result ≡ line_at sheet.now at }
 {
-    let left = sheet.len() - at;
-    if left < 4 {
-        return false;
-    }
-    let len = u16_at(sheet, at) as usize;
-    4 <= len && len <= left
-}
-
-// The text of the line that stands at `at`.
-fn text_at(sheet: &[u8], at: usize) -> Part<'_>
-    requires { (at + length_at sheet.now at ≤ length sheet.now) × (4 ≤ length_at sheet.now at) }
-    ensures { seen result ≡ text_at sheet.now at }
-{
-    let len = u16_at(sheet, at) as usize;
-    Part {
-        bytes: &sheet[at + 4..at + len],
-        at: at + 4,
-    }
+    let rest = &sheet[at..];
+    let [low, high, code_low, code_high] = *rest.first_chunk::<4>()?;
+    let len = u16::from_le_bytes([low, high]) as usize;
+    let text = rest.get(4..len)?;
+    Some(Line {
+        code: u16::from_le_bytes([code_low, code_high]),
+        text: Part {
+            bytes: text,
+            at: at + 4,
+        },
+        next: at + len,
+    })
 }
 
 fn first_text(sheet: &[u8], code: u16) -> Option<Part<'_>>
     ensures { shown result ≡ text_of sheet.now code }
 {
     let mut at = 0;
-    while stands_at(sheet, at) {
-        if u16_at(sheet, at + 2) == code {
-            return Some(text_at(sheet, at));
+    while let Some(line) = line_at(sheet, at) {
+        if line.code == code {
+            return Some(line.text);
         }
-        at += u16_at(sheet, at) as usize;
+        at = line.next;
     }
     None
 }
