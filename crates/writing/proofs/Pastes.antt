@@ -1,8 +1,9 @@
 -- Bytes written into a buffer one after the other.
-use Rattle.std.proofs.Common.{◌≡◌, ℕ, ◌+◌, ◌≤◌, List, [], ◌++◌, length, take, drop, sym, refl, ap, ◌∙◌, append_assoc, length-append, take-append-drop}
+use Rattle.std.proofs.Common.{◌≡◌, ℕ, ◌+◌, ◌≤◌, List, [], ◌++◌, length, take, drop, sym, refl, ap, ◌∙◌, append_assoc, length-append, take-append-drop, arith}
 use borrow.Rule.Slice.PartMut.{put_mid}
 use Rattle.std.proofs.lemmas.List.{drop-drop, take_at, drop_at, length-take-le}
 use Rattle.writing.specs.Buffers.{pasted, filled}
+use Rattle.writing.specs.Encoding.{prefixed}
 
 -- what `copy_from_slice` into a part leaves
 pub put_is : (a k : ℕ) (xs ys bs : List ℕ) → ys ≡ bs → k ≡ length bs → put_mid a k xs ys ≡ pasted a bs xs
@@ -40,8 +41,13 @@ pub record Wrote (orig buf : List ℕ) (at : ℕ) (done : List ℕ) : Type 0 whe
   pub here : length done ≡ at
   pub now : buf ≡ filled done orig
 
-pub wrote_none : (orig : List ℕ) → Wrote orig orig 0 []
-wrote_none orig = record { here = refl; now = refl }
+-- nothing is written yet
+pub begun : (orig : List ℕ) {at : ℕ} → at ≡ 0 → Wrote orig orig at []
+begun orig e = record { here = sym e; now = refl }
+
+-- the two bytes of a length, and what it counts
+pub two_more : (at : ℕ) (bs : List ℕ) → at + 2 + length bs ≡ at + length (prefixed bs)
+two_more at bs = omega arith
 
 pub wrote_more : {orig buf : List ℕ} {at : ℕ} {done : List ℕ} (bs after : List ℕ) (end : ℕ) → Wrote orig buf at done → after ≡ pasted at bs buf → end ≡ at + length bs → Wrote orig after end (done ++ bs)
 wrote_more {orig} {buf} {at} {done} bs after end w e n = record {

@@ -2,6 +2,6 @@
 
 #![tactic(auto)]
 
-mod buffer;
+mod draft;
 pub mod fault;
 pub mod writing;

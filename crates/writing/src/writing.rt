@@ -7,7 +7,7 @@ ghost use Rattle.writing.specs.Encoding.{size, encode};
 ghost use Rattle.writing.specs.Answers.{told_write, write_answer, buffer_after};
 ghost use Rattle.writing.specs.Trips.{ReadsBack, OwnBytes};
 
-use crate::buffer::{put, put_field, put_u16, put_u32};
+use crate::draft::Draft;
 use crate::fault::WriteFault;
 use envelope_fields::check::check;
 use envelope_fields::fields::Fields;
@@ -21,23 +21,34 @@ fn size_of(fields: Fields<'_>) -> usize
 }
 
 // Writes the record of `n` bytes, field after field.
+fn put_all(fields: Fields<'_>, n: u16, draft: &mut Draft<'_>)
+    requires fits { (n ≡ size (plain fields)) × (size (plain fields) ≤ length draft.old.buf.now) }
+    requires empty { draft.old.len ≡ 0 }
+    requires measured { Measured (plain fields) }
+    ensures after { draft.new.buf.now ≡ filled (encode (plain fields.entry)) draft.old.buf.now }
+    ensures lender { draft.new.buf.ghost_name ≡ draft.old.buf.ghost_name }
+{
+    draft.put(&n.to_le_bytes());
+    draft.put(&fields.content.kind().number().to_le_bytes());
+    draft.put(&fields.todt.to_le_bytes());
+    draft.put(&fields.to.to_le_bytes());
+    draft.put(&[fields.ar, fields.vb]);
+    draft.put(&fields.content.code().to_le_bytes());
+    draft.put(fields.on);
+    draft.put_field(fields.fr);
+    draft.put_field(fields.ad);
+    draft.put_field(fields.df);
+    draft.put_field(fields.ct);
+    draft.put(fields.rest);
+}
+
 fn fill(fields: Fields<'_>, n: u16, buf: &mut [u8])
     requires fits { (n ≡ size (plain fields)) × (size (plain fields) ≤ length buf.old) }
     requires measured { Measured (plain fields) }
     ensures { buf.new ≡ filled (encode (plain fields.entry)) buf.old }
 {
-    put_u16(buf, 0, n);
-    put_u16(buf, 2, fields.content.kind().number());
-    put_u32(buf, 4, fields.todt);
-    put_u16(buf, 8, fields.to);
-    put(buf, 10, &[fields.ar, fields.vb]);
-    put_u16(buf, 12, fields.content.code());
-    put(buf, 14, fields.on);
-    let ad = put_field(buf, 34, fields.fr);
-    let df = put_field(buf, ad, fields.ad);
-    let ct = put_field(buf, df, fields.df);
-    let rest = put_field(buf, ct, fields.ct);
-    put(buf, rest, fields.rest);
+    let mut draft = Draft::new(buf);
+    put_all(fields, n, &mut draft);
 }
 
 fn compose(fields: Fields<'_>, buf: &mut [u8]) -> Result<usize, WriteFault>
