@@ -1,9 +1,10 @@
 -- The fields of an envelope as numbers and texts, with no places.
 use Rattle.std.specs.Prelude.{ℕ, List}
+use Rattle.std.specs.Borrow.{Bor}
 use Rattle.envelope.specs.Views.{Whole}
 use Rattle.envelope_fields.specs.declared.fields.Content.{Content}
 use Rattle.envelope_fields.specs.declared.fields.Content.TheVariants.{Message, Status}
-use Rattle.envelope_fields.specs.declared.fields.Fields.{Fields}
+use Rattle.envelope_fields.specs.declared.fields.FieldsOf.{FieldsOf}
 
 pub record Plain : Type 0 where
   pub kind : ℕ
@@ -27,21 +28,25 @@ abbrev pub content_code : Content → ℕ
 content_code Message = 0
 content_code (Status c) = c
 
-abbrev pub plain : Fields → Plain
-plain f = record {
+-- the fields, with the bytes that each text is seen as
+abbrev pub plain_by : {T : Type 0} → (T → List ℕ) → FieldsOf T → Plain
+plain_by bytes f = record {
   kind = content_kind f.content;
   code = content_code f.content;
   todt = f.todt;
   to = f.to;
   ar = f.ar;
   vb = f.vb;
-  on = f.on.now;
-  fr = f.fr.now;
-  ad = f.ad.now;
-  df = f.df.now;
-  ct = f.ct.now;
-  rest = f.rest.now;
+  on = bytes f.on;
+  fr = bytes f.fr;
+  ad = bytes f.ad;
+  df = bytes f.df;
+  ct = bytes f.ct;
+  rest = bytes f.rest;
 }
+
+abbrev pub plain : FieldsOf (Bor (List ℕ)) → Plain
+plain f = plain_by (λ t. t.now) f
 
 -- what was read, without the places
 abbrev pub plain_of : Whole → Plain

@@ -2,9 +2,10 @@
 ghost use Rattle.std.specs.Prelude.{◌≡◌};
 ghost use Rattle.envelope.specs.Views.{held};
 ghost use Rattle.envelope.specs.Views.{kind_number};
-ghost use Rattle.envelope_fields.specs.Plain.{plain, plain_of, content_kind, content_code};
+ghost use Rattle.envelope_fields.specs.Plain.{plain, plain_by, plain_of, content_kind, content_code};
 
 use envelope::parts::{Envelope, Kind};
+use std::convert::AsSlice;
 
 // A status carries its code.
 #[derive(Clone, Copy, PartialEq, Eq, Debug)]
@@ -34,20 +35,44 @@ impl Content {
     }
 }
 
-// What is to be written as a record: its length and the lengths of its parts follow.
-#[derive(Clone, Copy)]
-pub struct Fields<'a> {
+// What is to be written as a record: its length and the lengths of its parts follow. The texts are lent or owned.
+#[derive(Clone, Copy, Drop)]
+pub struct FieldsOf<T> {
     pub content: Content,
     pub todt: u32,
     pub to: u16,
     pub ar: u8,
     pub vb: u8,
-    pub on: &'a [u8],
-    pub fr: &'a [u8],
-    pub ad: &'a [u8],
-    pub df: &'a [u8],
-    pub ct: &'a [u8],
-    pub rest: &'a [u8],
+    pub on: T,
+    pub fr: T,
+    pub ad: T,
+    pub df: T,
+    pub ct: T,
+    pub rest: T,
+}
+
+// With lent texts.
+pub type Fields<'a> = FieldsOf<&'a [u8]>;
+
+impl<T: AsSlice<u8>> FieldsOf<T> {
+    // The same fields, with their texts lent.
+    pub fn lent(&self) -> Fields<'_>
+        ensures { plain result ≡ plain_by T.items self.now }
+    {
+        FieldsOf {
+            content: self.content,
+            todt: self.todt,
+            to: self.to,
+            ar: self.ar,
+            vb: self.vb,
+            on: self.on.as_slice(),
+            fr: self.fr.as_slice(),
+            ad: self.ad.as_slice(),
+            df: self.df.as_slice(),
+            ct: self.ct.as_slice(),
+            rest: self.rest.as_slice(),
+        }
+    }
 }
 
 // The fields of an envelope that was read, to write it again.
