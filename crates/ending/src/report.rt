@@ -30,10 +30,8 @@ struct Written<'b> {
 fn bytes_at<'b, S: Spool>(spool: &S, place: usize, buf: &'b mut [u8; 2048]) -> &'b [u8]
     ensures { result.now ≡ at place (S.held spool.now) }
 {
-    match copy_whole(spool, place, buf) {
-        Ok(n) => &buf[0..n],
-        Err(_) => &buf[0..0],
-    }
+    let length = copy_whole(spool, place, buf).unwrap_or(0);
+    &buf[..length]
 }
 
 // The status that tells of a message by this code, as fields.
@@ -59,10 +57,8 @@ fn fields_of_report<'m>(address: &'m [u8], code: u16, message: Parts<'m>) -> Fie
 fn encoded<'b>(fields: Fields<'_>, buf: &'b mut [u8; 2048]) -> Option<&'b [u8]>
     ensures { lent result ≡ written_as (plain fields.entry) }
 {
-    match write(fields, buf) {
-        Ok(length) => Some(&buf[0..length]),
-        Err(_) => None,
-    }
+    let length = write(fields, buf).ok()?;
+    Some(&buf[..length])
 }
 
 // The report on a record by this code; none where the record is no message.
@@ -77,13 +73,11 @@ fn report_on<'a, 'b>(
     let Ok(Envelope::Message(message)) = read(rec) else {
         return None;
     };
-    match encoded(fields_of_report(address.text(), code, message), buf) {
-        Some(bytes) => Some(Written {
-            bytes,
-            about: about(Envelope::Status(code, message), Way::Local),
-        }),
-        None => None,
-    }
+    let bytes = encoded(fields_of_report(address.text(), code, message), buf)?;
+    Some(Written {
+        bytes,
+        about: about(Envelope::Status(code, message), Way::Local),
+    })
 }
 
 // The message at a place gives way to a status that goes this way back, and that tells of it by this code. A place that

@@ -1,9 +1,9 @@
 // What the calls need to know of an envelope, apart from its bytes.
 ghost use Rattle.std.specs.Prelude.{◌≡◌};
 ghost use Rattle.envelope.specs.Views.{held, view};
-ghost use Rattle.relay.specs.Abouts.{about_of, is_notified, kind_of};
+ghost use Rattle.relay.specs.Abouts.{about_of, is_notified};
 
-use envelope::parts::{Envelope, Kind, Parts};
+use envelope::parts::{Envelope, Parts};
 use routing::row::Way;
 use standing::standing::About;
 
@@ -14,22 +14,13 @@ fn is_notified(parts: Parts<'_>) -> bool
     parts.ct.bytes.len() > 0 && parts.vb >= 1
 }
 
-fn kind_of(envelope: Envelope<'_>) -> Kind
-    ensures { result ≡ kind_of (held envelope.entry) }
-{
-    match envelope {
-        Envelope::Message(_) => Kind::Message,
-        Envelope::Status(_, _) => Kind::Status,
-    }
-}
-
 // What is kept of an envelope whose reports go this way back.
 pub fn about(envelope: Envelope<'_>, back: Way) -> About
     ensures { result ≡ about_of (held envelope.entry) back }
 {
     let parts = envelope.parts();
     About {
-        kind: kind_of(envelope),
+        kind: envelope.kind(),
         end: envelope.end(),
         timeout: parts.to,
         receipt: parts.ar == 1,

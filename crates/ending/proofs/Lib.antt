@@ -1,2 +1,0 @@
-mod Fetched
-mod Encoded
