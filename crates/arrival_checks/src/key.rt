@@ -9,8 +9,5 @@ use ledger::fault::LedgerFault;
 pub fn or_no_row<K: Copy>(key: Option<K>) -> Result<K, ArrivalFault>
     ensures { result ≡ or_no_row key }
 {
-    match key {
-        Some(key) => Ok(key),
-        None => Err(ArrivalFault::Ledger(LedgerFault::NoRow)),
-    }
+    key.ok_or(ArrivalFault::Ledger(LedgerFault::NoRow))
 }

@@ -18,20 +18,14 @@ pub struct Ways {
 fn way_to(routes: &[RouteRow], target: &[u8], dataflow: &[u8]) -> Option<Way>
     ensures { result ≡ way_to routes.now target.now dataflow.now }
 {
-    match choose(routes, target, dataflow) {
-        Ok(way) => way,
-        Err(_) => None,
-    }
+    choose(routes, target, dataflow).unwrap_or(None)
 }
 
 // Whether a way leads to the neighbour who brought the envelope.
 fn is_sent_back(neighbour: u8, on: Way) -> bool
     ensures { result ≡ is_sent_back neighbour on }
 {
-    match on {
-        Way::Local => false,
-        Way::Neighbour(n) => n == neighbour,
-    }
+    on == Way::Neighbour(neighbour)
 }
 
 fn unless_sent_back(neighbour: u8, on: Way, back: Way) -> Result<Ways, ArrivalFault>
@@ -47,11 +41,9 @@ fn unless_sent_back(neighbour: u8, on: Way, back: Way) -> Result<Ways, ArrivalFa
 fn both_ways(neighbour: u8, on: Option<Way>, back: Option<Way>) -> Result<Ways, ArrivalFault>
     ensures { result ≡ both_ways neighbour on back }
 {
-    match (on, back) {
-        (None, _) => Err(ArrivalFault::NoWayOn),
-        (Some(_), None) => Err(ArrivalFault::NoWayBack),
-        (Some(on), Some(back)) => unless_sent_back(neighbour, on, back),
-    }
+    let on = on.ok_or(ArrivalFault::NoWayOn)?;
+    let back = back.ok_or(ArrivalFault::NoWayBack)?;
+    unless_sent_back(neighbour, on, back)
 }
 
 pub fn message_ways(

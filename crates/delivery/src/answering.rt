@@ -50,8 +50,7 @@ pub fn answer<S: Spool>(
     ensures state { view S.held relay.new ≡ answer_state (view S.held relay.old) clock place number outcome }
 {
     relay.tick(clock);
-    match task_after(relay.table.at(place), number, reply_of(outcome)) {
-        Some(task) => Ok(perform(relay, place, task)),
-        None => Err(AnswerFault::NotOut),
-    }
+    let task = task_after(relay.table.at(place), number, reply_of(outcome))
+        .ok_or(AnswerFault::NotOut)?;
+    Ok(perform(relay, place, task))
 }

@@ -11,10 +11,7 @@ use standing::standing::Standing;
 fn is_out_under(standing: Standing, number: u32) -> bool
     ensures { result ≡ is_out_under number standing }
 {
-    match standing {
-        Standing::Out { number: out, .. } => out == number,
-        _ => false,
-    }
+    matches!(standing, Standing::Out { number: out, .. } if out == number)
 }
 
 // Copies the record that is out at a place under a try number to the front of the buffer, and tells its length. The buffer

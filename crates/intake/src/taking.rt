@@ -27,10 +27,7 @@ fn free_place<S: Spool>(relay: &Relay<S>) -> Option<usize>
 fn check_row<R: Row>(ledger: &Ledger<R>, time: u64, key: &R::Key) -> Result<usize, LedgerFault>
     ensures { result ≡ or_refused (place_for R.Row.kind time key.now ledger.now.rows.now) }
 {
-    match ledger.place_for(time, key) {
-        Some(row) => Ok(row),
-        None => Err(LedgerFault::NoRow),
-    }
+    ledger.place_for(time, key).ok_or(LedgerFault::NoRow)
 }
 
 // The place for an envelope with this key: first a row of its ledger is asked for, then a place.
@@ -42,10 +39,7 @@ fn check_room<S: Spool, R: Row>(
     ensures { result ≡ room_for R.Row.kind (view S.Spool.held relay.now) key.now ledger.now.rows.now }
 {
     check_row(ledger, relay.time as u64, key)?;
-    match free_place(relay) {
-        Some(place) => Ok(place),
-        None => Err(ArrivalFault::NoPlace),
-    }
+    free_place(relay).ok_or(ArrivalFault::NoPlace)
 }
 
 fn answer_for(on: Way, place: usize) -> Arrived
