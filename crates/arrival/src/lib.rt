@@ -4,3 +4,4 @@
 
 pub mod arriving;
 pub mod bringing;
+pub mod ledgers;
