@@ -1,13 +1,11 @@
 // One call.
 ghost use Rattle.std.specs.Prelude.{◌≡◌, ℕ, List, [], ◌∷◌, ◌++◌};
-ghost use Rattle.message_rows.specs.declared.message.MessageRow.{MessageRow};
-ghost use Rattle.status_rows.specs.declared.status.StatusRow.{StatusRow};
 ghost use Rattle.relay.specs.States.{view};
 ghost use Rattle.player.specs.Answers.{answer_of};
 ghost use Rattle.account.specs.Laws.{Laws};
 ghost use Rattle.deeds.specs.Ranges.{InRange};
 ghost use Rattle.player.specs.Runs.{Event, event, account, Agrees, Brings};
-ghost use Rattle.player.specs.Steps.{world, with_slots, after, admitted, arrived, closed, stepped};
+ghost use Rattle.player.specs.Steps.{world_in, SameMemory, after, admitted, arrived, closed, stepped};
 
 use crate::call::Call;
 use crate::player::Player;
@@ -19,22 +17,21 @@ use delivery::answering::answer;
 use delivery::handing_out::hand_out;
 use delivery::reading::read_out;
 use ledger::table::Ledger;
-use message_rows::message::MessageRow;
 use office::oldest::{collect, notice};
 use routing::row::RouteRow;
 use spool::Spool;
-use status_rows::status::StatusRow;
 use sweeping::sweep::sweep;
 
 // Admits a connection under a number that is free.
 fn admit<S: Spool>(
-    player: &mut Player<S>,
+    player: &mut Player<'_, S>,
     clock: u32,
     connection: usize,
     fingerprint: [u8; 32],
     clients: &Ledger<WhiteListRow>,
 ) -> Told
-    ensures { (ms : List MessageRow) (ss : List StatusRow) (buf : List ℕ) → after (answer_of result) (world (view S.held player.new.relay) player.new.connections.slots ms ss) buf ≡ admitted (world (view S.held player.old.relay) player.old.connections.slots ms ss) clock connection fingerprint clients.now.rows.now buf }
+    ensures outcome { (buf : List ℕ) → after (answer_of result) (world_in S.held player.new) buf ≡ admitted (world_in S.held player.old) clock connection fingerprint clients.now.rows.now buf }
+    ensures memory { SameMemory player.old player.new }
 {
     if !player.connections.is_free(connection) {
         return Told::NoCall;
@@ -56,18 +53,15 @@ fn admit<S: Spool>(
 
 // Brings a record on the connection that is named.
 fn bring_on<S: Spool>(
-    player: &mut Player<S>,
-    messages: &mut [MessageRow],
-    statuses: &mut [StatusRow],
+    player: &mut Player<'_, S>,
     clock: u32,
     connection: usize,
     rec: &[u8],
     routes: &[RouteRow],
 ) -> Told
-    ensures { (buf : List ℕ) → after (answer_of result) (world (view S.held player.new.relay) player.new.connections.slots messages.new statuses.new) buf ≡ arrived (world (view S.held player.old.relay) player.old.connections.slots messages.old statuses.old) clock connection rec.now routes.now buf }
+    ensures outcome { (buf : List ℕ) → after (answer_of result) (world_in S.held player.new) buf ≡ arrived (world_in S.held player.old) clock connection rec.now routes.now buf }
+    ensures memory { SameMemory player.old player.new }
 {
-    let mut messages = Ledger::new(messages);
-    let mut statuses = Ledger::new(statuses);
     match player.connections.at(connection) {
         Some(connection) => Told::Arrived(arrive(
             &mut player.relay,
@@ -75,8 +69,7 @@ fn bring_on<S: Spool>(
             clock,
             rec,
             routes,
-            &mut messages,
-            &mut statuses,
+            &mut player.ledgers,
         )),
         None => Told::NoCall,
     }
@@ -84,22 +77,22 @@ fn bring_on<S: Spool>(
 
 // The same; the time in what is brought is of 32 bits, since it is bytes.
 fn bring<S: Spool>(
-    player: &mut Player<S>,
-    messages: &mut [MessageRow],
-    statuses: &mut [StatusRow],
+    player: &mut Player<'_, S>,
     clock: u32,
     connection: usize,
     rec: &[u8],
     routes: &[RouteRow],
 ) -> Told
-    ensures outcome { (buf : List ℕ) → after (answer_of result) (world (view S.held player.new.relay) player.new.connections.slots messages.new statuses.new) buf ≡ arrived (world (view S.held player.old.relay) player.old.connections.slots messages.old statuses.old) clock connection rec.now routes.now buf }
+    ensures outcome { (buf : List ℕ) → after (answer_of result) (world_in S.held player.new) buf ≡ arrived (world_in S.held player.old) clock connection rec.now routes.now buf }
+    ensures memory { SameMemory player.old player.new }
     ensures in_range { InRange rec.now }
 {
-    bring_on(player, messages, statuses, clock, connection, rec, routes)
+    bring_on(player, clock, connection, rec, routes)
 }
 
-fn close<S: Spool>(player: &mut Player<S>, connection: usize) -> Told
-    ensures { (ms : List MessageRow) (ss : List StatusRow) (buf : List ℕ) → after (answer_of result) (world (view S.held player.new.relay) player.new.connections.slots ms ss) buf ≡ closed (world (view S.held player.old.relay) player.old.connections.slots ms ss) connection buf }
+fn close<S: Spool>(player: &mut Player<'_, S>, connection: usize) -> Told
+    ensures outcome { (buf : List ℕ) → after (answer_of result) (world_in S.held player.new) buf ≡ closed (world_in S.held player.old) connection buf }
+    ensures memory { SameMemory player.old player.new }
 {
     match player.connections.at(connection) {
         Some(_) => {
@@ -111,14 +104,9 @@ fn close<S: Spool>(player: &mut Player<S>, connection: usize) -> Told
 }
 
 // Makes one call.
-fn make<S: Spool>(
-    player: &mut Player<S>,
-    messages: &mut [MessageRow],
-    statuses: &mut [StatusRow],
-    call: Call<'_>,
-    buf: &mut [u8],
-) -> Told
-    ensures outcome { after (answer_of result) (world (view S.held player.new.relay) player.new.connections.slots messages.new statuses.new) buf.new ≡ stepped (world (view S.held player.old.relay) player.old.connections.slots messages.old statuses.old) call.entry buf.old }
+fn make<S: Spool>(player: &mut Player<'_, S>, call: Call<'_>, buf: &mut [u8]) -> Told
+    ensures outcome { after (answer_of result) (world_in S.held player.new) buf.new ≡ stepped (world_in S.held player.old) call.entry buf.old }
+    ensures memory { SameMemory player.old player.new }
     ensures brings { Brings call.entry }
 {
     match call {
@@ -133,7 +121,7 @@ fn make<S: Spool>(
             connection,
             rec,
             routes,
-        } => bring(player, messages, statuses, clock, connection, rec, routes),
+        } => bring(player, clock, connection, rec, routes),
         Call::Close { connection } => close(player, connection),
         Call::HandOut { clock } => Told::HandedOut(hand_out(&mut player.relay, clock)),
         Call::Read {
@@ -156,16 +144,11 @@ fn make<S: Spool>(
 
 // Makes one call. Whatever was called before, and whatever this call brings: where the relay and its ledger of messages are
 // as the account of a log has it, they are afterwards as the account of the log with this call has it, and so the laws hold.
-pub fn step<S: Spool>(
-    player: &mut Player<S>,
-    messages: &mut [MessageRow],
-    statuses: &mut [StatusRow],
-    call: Call<'_>,
-    buf: &mut [u8],
-) -> Told
-    ensures outcome { after (answer_of result) (world (view S.held player.new.relay) player.new.connections.slots messages.new statuses.new) buf.new ≡ stepped (world (view S.held player.old.relay) player.old.connections.slots messages.old statuses.old) call.entry buf.old }
-    ensures account_goes_on { (log : List Event) → Agrees (account log) (world (view S.held player.old.relay) player.old.connections.slots messages.old statuses.old) → Agrees (account (log ++ (event call.entry (answer_of result) buf.new ∷ []))) (world (view S.held player.new.relay) player.new.connections.slots messages.new statuses.new) }
-    ensures no_request_lost_or_doubled { (log : List Event) → Agrees (account log) (world (view S.held player.old.relay) player.old.connections.slots messages.old statuses.old) → Laws (account (log ++ (event call.entry (answer_of result) buf.new ∷ []))) (view S.held player.new.relay) }
+pub fn step<S: Spool>(player: &mut Player<'_, S>, call: Call<'_>, buf: &mut [u8]) -> Told
+    ensures outcome { after (answer_of result) (world_in S.held player.new) buf.new ≡ stepped (world_in S.held player.old) call.entry buf.old }
+    ensures memory { SameMemory player.old player.new }
+    ensures account_goes_on { (log : List Event) → Agrees (account log) (world_in S.held player.old) → Agrees (account (log ++ (event call.entry (answer_of result) buf.new ∷ []))) (world_in S.held player.new) }
+    ensures no_request_lost_or_doubled { (log : List Event) → Agrees (account log) (world_in S.held player.old) → Laws (account (log ++ (event call.entry (answer_of result) buf.new ∷ []))) (view S.held player.new.relay) }
 {
-    make(player, messages, statuses, call, buf)
+    make(player, call, buf)
 }

@@ -6,12 +6,6 @@ use Rattle.envelope_fields.specs.Forms.{fixed_rows, moving_rows}
 use Rattle.envelope_fields.proofs.Measures.{measured_made}
 use Rattle.envelope_fields.proofs.check.check.Goals as goal
 
-pub returns-in_err-check_fixed : goal.returns-in_err-check_fixed
-returns-in_err-check_fixed c =
-    let d = plain c.args.fields in
-    let p = err_from_is_err_and c.from_residual.result c.from_residual.ensures.1 in
-    rw (p.1, p.2) (record { value = refused_front (fixed_rows d) (moving_rows d) _ c.in_err-check_fixed.ensures; measured = tt })
-
 pub returns : goal.returns
 returns c =
     let d = plain c.args.fields in

@@ -1,72 +1,10 @@
-use Rattle.std.proofs.Common.{ℕ, List, [], ◌∷◌, ◌++◌, ap, ◌∙◌, arith}
+use Rattle.std.proofs.Common.{ℕ, List, [], ◌∷◌, ◌++◌, ap, ◌∙◌}
 use Rattle.envelope_fields.specs.Plain.{plain}
 use Rattle.writing.specs.Buffers.{filled}
 use Rattle.writing.specs.Encoding.{prefixed}
 use Rattle.writing.proofs.Pastes.{begun, two_more, wrote_more}
 use Rattle.writing.proofs.Pieces.{pieces_are}
 use Rattle.writing.proofs.writing.put_all.Goals as goal
-
-pub put_field-requires-2 : goal.put_field-requires-2
-put_field-requires-2 c =
-    let m = c.requires.measured in let on = m.on in let fr = m.fr in let ad = m.ad in let df = m.df in let ct = m.ct in
-    let f0 = c.requires.fits.0 in let f1 = c.requires.fits.1 in let s = c.requires.empty in
-    let l0 = c.put.ensures.len in let r0 = c.put.ensures.room in
-    let l1 = c.put-2.ensures.len in let r1 = c.put-2.ensures.room in
-    let l2 = c.put-3.ensures.len in let r2 = c.put-3.ensures.room in
-    let l3 = c.put-4.ensures.len in let r3 = c.put-4.ensures.room in
-    let l4 = c.put-5.ensures.len in let r4 = c.put-5.ensures.room in
-    let l5 = c.put-6.ensures.len in let r5 = c.put-6.ensures.room in
-    let l6 = c.put-7.ensures.len in let r6 = c.put-7.ensures.room in
-    let l7 = c.put_field.ensures.len in let r7 = c.put_field.ensures.room in
-    (omega arith, omega arith)
-
-pub put_field-requires-3 : goal.put_field-requires-3
-put_field-requires-3 c =
-    let m = c.requires.measured in let on = m.on in let fr = m.fr in let ad = m.ad in let df = m.df in let ct = m.ct in
-    let f0 = c.requires.fits.0 in let f1 = c.requires.fits.1 in let s = c.requires.empty in
-    let l0 = c.put.ensures.len in let r0 = c.put.ensures.room in
-    let l1 = c.put-2.ensures.len in let r1 = c.put-2.ensures.room in
-    let l2 = c.put-3.ensures.len in let r2 = c.put-3.ensures.room in
-    let l3 = c.put-4.ensures.len in let r3 = c.put-4.ensures.room in
-    let l4 = c.put-5.ensures.len in let r4 = c.put-5.ensures.room in
-    let l5 = c.put-6.ensures.len in let r5 = c.put-6.ensures.room in
-    let l6 = c.put-7.ensures.len in let r6 = c.put-7.ensures.room in
-    let l7 = c.put_field.ensures.len in let r7 = c.put_field.ensures.room in
-    let l8 = c.put_field-2.ensures.len in let r8 = c.put_field-2.ensures.room in
-    (omega arith, omega arith)
-
-pub put_field-requires-4 : goal.put_field-requires-4
-put_field-requires-4 c =
-    let m = c.requires.measured in let on = m.on in let fr = m.fr in let ad = m.ad in let df = m.df in let ct = m.ct in
-    let f0 = c.requires.fits.0 in let f1 = c.requires.fits.1 in let s = c.requires.empty in
-    let l0 = c.put.ensures.len in let r0 = c.put.ensures.room in
-    let l1 = c.put-2.ensures.len in let r1 = c.put-2.ensures.room in
-    let l2 = c.put-3.ensures.len in let r2 = c.put-3.ensures.room in
-    let l3 = c.put-4.ensures.len in let r3 = c.put-4.ensures.room in
-    let l4 = c.put-5.ensures.len in let r4 = c.put-5.ensures.room in
-    let l5 = c.put-6.ensures.len in let r5 = c.put-6.ensures.room in
-    let l6 = c.put-7.ensures.len in let r6 = c.put-7.ensures.room in
-    let l7 = c.put_field.ensures.len in let r7 = c.put_field.ensures.room in
-    let l8 = c.put_field-2.ensures.len in let r8 = c.put_field-2.ensures.room in
-    let l9 = c.put_field-3.ensures.len in let r9 = c.put_field-3.ensures.room in
-    (omega arith, omega arith)
-
-pub put-requires-8 : goal.put-requires-8
-put-requires-8 c =
-    let m = c.requires.measured in let on = m.on in let fr = m.fr in let ad = m.ad in let df = m.df in let ct = m.ct in
-    let f0 = c.requires.fits.0 in let f1 = c.requires.fits.1 in let s = c.requires.empty in
-    let l0 = c.put.ensures.len in let r0 = c.put.ensures.room in
-    let l1 = c.put-2.ensures.len in let r1 = c.put-2.ensures.room in
-    let l2 = c.put-3.ensures.len in let r2 = c.put-3.ensures.room in
-    let l3 = c.put-4.ensures.len in let r3 = c.put-4.ensures.room in
-    let l4 = c.put-5.ensures.len in let r4 = c.put-5.ensures.room in
-    let l5 = c.put-6.ensures.len in let r5 = c.put-6.ensures.room in
-    let l6 = c.put-7.ensures.len in let r6 = c.put-7.ensures.room in
-    let l7 = c.put_field.ensures.len in let r7 = c.put_field.ensures.room in
-    let l8 = c.put_field-2.ensures.len in let r8 = c.put_field-2.ensures.room in
-    let l9 = c.put_field-3.ensures.len in let r9 = c.put_field-3.ensures.room in
-    let l10 = c.put_field-4.ensures.len in let r10 = c.put_field-4.ensures.room in
-    omega arith
 
 pub returns : goal.returns
 returns c =

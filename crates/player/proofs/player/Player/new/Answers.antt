@@ -7,7 +7,9 @@ returns g c =
     record {
       state = e;
       connections = c.new-2.ensures;
-      messages = c.forget.ensures.messages;
-      statuses = c.forget.ensures.statuses;
+      messages = c.wiped.ensures.messages;
+      statuses = c.wiped.ensures.statuses;
+      messages_lender = c.wiped.ensures.messages_lender;
+      statuses_lender = c.wiped.ensures.statuses_lender;
       begins_the_account = agrees_at_first _ _ _ _ _ _ e c.args.address.form (g.S.Spool.few c.args.spool);
     }
