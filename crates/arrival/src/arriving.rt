@@ -2,7 +2,7 @@
 ghost use Rattle.std.specs.Prelude.{◌≡◌};
 ghost use Rattle.envelope.specs.Results.{viewed};
 ghost use Rattle.envelope.specs.Views.{held as whole_of};
-ghost use Rattle.relay.specs.States.{view, timed};
+ghost use Rattle.relay.specs.States.{timed};
 ghost use Rattle.connection.specs.Admissions.{may_send};
 ghost use Rattle.arrival_checks.specs.Answers.{arrival_refusal};
 ghost use Rattle.intake.specs.Promises.{ByPlace, StoredAt};
@@ -39,7 +39,7 @@ fn receive<S: Spool>(
     routes: &[RouteRow],
     ledgers: &mut Ledgers<'_>,
 ) -> Result<Arrived, ArrivalFault>
-    ensures outcome { outcome (viewed (λ x. x) arrival_refusal result) (view S.held relay.new) ledgers.new.messages.rows.now ledgers.new.statuses.rows.now ≡ arrival (view S.held relay.old) (may_send connection.now) connection.now.neighbour clock rec.now routes.now ledgers.old.messages.rows.now ledgers.old.statuses.rows.now }
+    ensures outcome { outcome (viewed (λ x. x) arrival_refusal result) relay.new ledgers.new.messages.rows.now ledgers.new.statuses.rows.now ≡ arrival relay.old (may_send connection.now) connection.now.neighbour clock rec.now routes.now ledgers.old.messages.rows.now ledgers.old.statuses.rows.now }
     ensures messages_lender { ledgers.new.messages.rows.ghost_name ≡ ledgers.old.messages.rows.ghost_name }
     ensures statuses_lender { ledgers.new.statuses.rows.ghost_name ≡ ledgers.old.statuses.rows.ghost_name }
 {
@@ -66,14 +66,14 @@ pub fn arrive<S: Spool>(
     routes: &[RouteRow],
     ledgers: &mut Ledgers<'_>,
 ) -> Result<Arrived, ArrivalFault>
-    ensures answer { viewed (λ x. x) arrival_refusal result ≡ (arrival (view S.held relay.old) (may_send connection.now) connection.now.neighbour clock rec.now routes.now ledgers.old.messages.rows.now ledgers.old.statuses.rows.now).answer }
-    ensures state { view S.held relay.new ≡ (arrival (view S.held relay.old) (may_send connection.now) connection.now.neighbour clock rec.now routes.now ledgers.old.messages.rows.now ledgers.old.statuses.rows.now).state }
-    ensures messages { ledgers.new.messages.rows.now ≡ (arrival (view S.held relay.old) (may_send connection.now) connection.now.neighbour clock rec.now routes.now ledgers.old.messages.rows.now ledgers.old.statuses.rows.now).messages }
-    ensures statuses { ledgers.new.statuses.rows.now ≡ (arrival (view S.held relay.old) (may_send connection.now) connection.now.neighbour clock rec.now routes.now ledgers.old.messages.rows.now ledgers.old.statuses.rows.now).statuses }
+    ensures answer { viewed (λ x. x) arrival_refusal result ≡ (arrival relay.old (may_send connection.now) connection.now.neighbour clock rec.now routes.now ledgers.old.messages.rows.now ledgers.old.statuses.rows.now).answer }
+    ensures state { relay.new ≡ (arrival relay.old (may_send connection.now) connection.now.neighbour clock rec.now routes.now ledgers.old.messages.rows.now ledgers.old.statuses.rows.now).state }
+    ensures messages { ledgers.new.messages.rows.now ≡ (arrival relay.old (may_send connection.now) connection.now.neighbour clock rec.now routes.now ledgers.old.messages.rows.now ledgers.old.statuses.rows.now).messages }
+    ensures statuses { ledgers.new.statuses.rows.now ≡ (arrival relay.old (may_send connection.now) connection.now.neighbour clock rec.now routes.now ledgers.old.messages.rows.now ledgers.old.statuses.rows.now).statuses }
     ensures messages_lender { ledgers.new.messages.rows.ghost_name ≡ ledgers.old.messages.rows.ghost_name }
     ensures statuses_lender { ledgers.new.statuses.rows.ghost_name ≡ ledgers.old.statuses.rows.ghost_name }
-    ensures not_taken_in_moves_only_the_time { ByPlace result (λ _. Unit {0}) ((view S.held relay.new ≡ timed (view S.held relay.old) clock) × (ledgers.new.messages.rows.now ≡ ledgers.old.messages.rows.now) × (ledgers.new.statuses.rows.now ≡ ledgers.old.statuses.rows.now)) }
-    ensures taken_in_is_stored { ByPlace result (StoredAt rec.now (view S.held relay.old) (view S.held relay.new)) (Unit {0}) }
+    ensures not_taken_in_moves_only_the_time { ByPlace result (λ _. Unit {0}) ((relay.new ≡ timed relay.old clock) × (ledgers.new.messages.rows.now ≡ ledgers.old.messages.rows.now) × (ledgers.new.statuses.rows.now ≡ ledgers.old.statuses.rows.now)) }
+    ensures taken_in_is_stored { ByPlace result (StoredAt rec.now relay.old relay.new) (Unit {0}) }
 {
     receive(relay, connection, clock, rec, routes, ledgers)
 }

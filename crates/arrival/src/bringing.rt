@@ -1,7 +1,6 @@
 // What comes of an envelope that a neighbour brings and may send, whatever the kind of connection.
 ghost use Rattle.std.specs.Prelude.{◌≡◌};
 ghost use Rattle.envelope.specs.Views.{held as whole_of};
-ghost use Rattle.relay.specs.States.{view};
 ghost use Rattle.arrival.specs.Arrivals.{outcome, brought};
 
 use crate::ledgers::Ledgers;
@@ -23,7 +22,7 @@ pub fn bring<S: Spool>(
     routes: &[RouteRow],
     ledgers: &mut Ledgers<'_>,
 ) -> Result<Arrived, ArrivalFault>
-    ensures outcome { outcome result (view S.held relay.new) ledgers.new.messages.rows.now ledgers.new.statuses.rows.now ≡ brought (view S.held relay.old) neighbour (whole_of envelope.entry) rec.now routes.now ledgers.old.messages.rows.now ledgers.old.statuses.rows.now }
+    ensures outcome { outcome result relay.new ledgers.new.messages.rows.now ledgers.new.statuses.rows.now ≡ brought relay.old neighbour (whole_of envelope.entry) rec.now routes.now ledgers.old.messages.rows.now ledgers.old.statuses.rows.now }
     ensures messages_lender { ledgers.new.messages.rows.ghost_name ≡ ledgers.old.messages.rows.ghost_name }
     ensures statuses_lender { ledgers.new.statuses.rows.ghost_name ≡ ledgers.old.statuses.rows.ghost_name }
 {

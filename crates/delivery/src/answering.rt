@@ -1,6 +1,5 @@
 // Taking what the neighbour answered to a try.
 ghost use Rattle.std.specs.Prelude.{◌≡◌};
-ghost use Rattle.relay.specs.States.{view};
 ghost use Rattle.delivery.specs.Answers.{task_after, answer_told, answer_state};
 
 use crate::fault::AnswerFault;
@@ -46,8 +45,8 @@ pub fn answer<S: Spool>(
     number: u32,
     outcome: Outcome,
 ) -> Result<Done, AnswerFault>
-    ensures answer { result ≡ answer_told (view S.held relay.old) clock place number outcome }
-    ensures state { view S.held relay.new ≡ answer_state (view S.held relay.old) clock place number outcome }
+    ensures answer { result ≡ answer_told relay.old clock place number outcome }
+    ensures state { relay.new ≡ answer_state relay.old clock place number outcome }
 {
     relay.tick(clock);
     let task = task_after(relay.table.at(place), number, reply_of(outcome))

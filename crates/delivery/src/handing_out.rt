@@ -1,6 +1,5 @@
 // Handing a waiting envelope out for a try.
 ghost use Rattle.std.specs.Prelude.{◌≡◌, max};
-ghost use Rattle.relay.specs.States.{view};
 ghost use Rattle.delivery.specs.HandOuts.{hop_of, hand_out_answer, hand_out_state, Fair};
 
 use crate::fault::HandOutFault;
@@ -27,8 +26,8 @@ fn hop_of(standing: Standing) -> u8
 }
 
 fn give_out<S: Spool>(relay: &mut Relay<S>, clock: u32) -> Result<Option<HandOut>, HandOutFault>
-    ensures answer { result ≡ hand_out_answer (view S.held relay.old) clock }
-    ensures state { view S.held relay.new ≡ hand_out_state (view S.held relay.old) clock }
+    ensures answer { result ≡ hand_out_answer relay.old clock }
+    ensures state { relay.new ≡ hand_out_state relay.old clock }
 {
     relay.tick(clock);
     let Some(found) = next_due(&relay.table, relay.time) else {
@@ -51,9 +50,9 @@ fn give_out<S: Spool>(relay: &mut Relay<S>, clock: u32) -> Result<Option<HandOut
 // Of the live waiting envelopes that are due, the one with the least due time, then the lowest place, is out from now on
 // under the next try number; none where none is due.
 pub fn hand_out<S: Spool>(relay: &mut Relay<S>, clock: u32) -> Result<Option<HandOut>, HandOutFault>
-    ensures answer { result ≡ hand_out_answer (view S.held relay.old) clock }
-    ensures state { view S.held relay.new ≡ hand_out_state (view S.held relay.old) clock }
-    ensures fair { Fair (max relay.old.time clock) relay.old.table.standings result }
+    ensures answer { result ≡ hand_out_answer relay.old clock }
+    ensures state { relay.new ≡ hand_out_state relay.old clock }
+    ensures fair { Fair (max relay.old.time clock) relay.old.standings result }
 {
     give_out(relay, clock)
 }

@@ -1,6 +1,6 @@
 // Reading the record of a try.
 ghost use Rattle.std.specs.Prelude.{◌≡◌};
-ghost use Rattle.relay.specs.States.{view, timed};
+ghost use Rattle.relay.specs.States.{timed};
 ghost use Rattle.delivery.specs.Readings.{is_out_under, read_answer, read_buffer};
 
 use crate::fault::ReadFault;
@@ -23,9 +23,9 @@ pub fn read_out<S: Spool>(
     number: u32,
     buf: &mut [u8],
 ) -> Result<usize, ReadFault>
-    ensures answer { result ≡ read_answer (view S.held relay.old) place number buf.old }
-    ensures buffer { buf.new ≡ read_buffer (view S.held relay.old) place number buf.old }
-    ensures state { view S.held relay.new ≡ timed (view S.held relay.old) clock }
+    ensures answer { result ≡ read_answer relay.old place number buf.old }
+    ensures buffer { buf.new ≡ read_buffer relay.old place number buf.old }
+    ensures state { relay.new ≡ timed relay.old clock }
 {
     relay.tick(clock);
     if !is_out_under(relay.table.at(place), number) {

@@ -1,6 +1,5 @@
 // What is to be done with an envelope, and what was done.
 ghost use Rattle.std.specs.Prelude.{◌≡◌};
-ghost use Rattle.relay.specs.States.{view};
 ghost use Rattle.ending.specs.Acts.{done_as, performed};
 
 use crate::double_fault::double_fault;
@@ -39,8 +38,8 @@ pub struct Task {
 
 // Does it with the envelope at a place.
 pub fn perform<S: Spool>(relay: &mut Relay<S>, place: usize, task: Task) -> Done
-    ensures done { result ≡ done_as (view S.held relay.old) place task }
-    ensures state { view S.held relay.new ≡ performed (view S.held relay.old) place task }
+    ensures done { result ≡ done_as relay.old place task }
+    ensures state { relay.new ≡ performed relay.old place task }
 {
     let about = task.about;
     match task.act {

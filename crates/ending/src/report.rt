@@ -4,7 +4,6 @@ ghost use Rattle.text.specs.Addresses.{address_text};
 ghost use Rattle.envelope.specs.Views as envelope;
 ghost use Rattle.envelope_fields.specs.Plain.{plain};
 ghost use Rattle.spool.specs.Meaning.{at};
-ghost use Rattle.relay.specs.States.{view};
 ghost use Rattle.ending.specs.Reports.{report_on, written_as, lent, report_for, seen_report, is_reported, reported};
 
 use envelope::parts::{Envelope, Parts};
@@ -83,8 +82,8 @@ fn report_on<'a, 'b>(
 // The message at a place gives way to a status that goes this way back, and that tells of it by this code. A place that
 // holds no message is dropped instead. Says whether a report goes back.
 pub(crate) fn report<S: Spool>(relay: &mut Relay<S>, place: usize, code: u16, back: Way) -> bool
-    ensures reported { result ≡ is_reported (view S.held relay.old) place code }
-    ensures state { view S.held relay.new ≡ reported (view S.held relay.old) place code back }
+    ensures reported { result ≡ is_reported relay.old place code }
+    ensures state { relay.new ≡ reported relay.old place code back }
 {
     let mut message = [0; 2048];
     let mut status = [0; 2048];

@@ -1,6 +1,5 @@
 // Waiting again after a failed try.
 ghost use Rattle.std.specs.Prelude.{◌≡◌};
-ghost use Rattle.relay.specs.States.{view};
 ghost use Rattle.ending.specs.Retries.{delay_after, one_more, due_again, waits_again};
 
 use relay::relay::Relay;
@@ -37,7 +36,7 @@ fn delay_after(failed: u8) -> u64
 // One more try of the envelope that is out at a place has failed, after so many: it waits again. Tells until when.
 pub(crate) fn retry<S: Spool>(relay: &mut Relay<S>, place: usize, failed: u8) -> u64
     ensures due { result ≡ due_again relay.old.time failed }
-    ensures state { view S.held relay.new ≡ waits_again (view S.held relay.old) place failed }
+    ensures state { relay.new ≡ waits_again relay.old place failed }
 {
     let failed = one_more(failed);
     let due = relay.time as u64 + delay_after(failed);

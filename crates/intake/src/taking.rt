@@ -2,7 +2,6 @@
 ghost use Rattle.std.specs.Prelude.{◌≡◌};
 ghost use Rattle.ledger.specs.Searches.{place_for};
 ghost use Rattle.ledger.specs.Changes.{or_refused};
-ghost use Rattle.relay.specs.States.{view};
 ghost use Rattle.intake.specs.TakingIn.{free_place, room_for, answer_for, taking_in};
 ghost use Rattle.intake.specs.Steps.{taken};
 
@@ -18,7 +17,7 @@ use standing::standing::About;
 
 // The lowest free place of those that the spool has.
 fn free_place<S: Spool>(relay: &Relay<S>) -> Option<usize>
-    ensures { result ≡ free_place (view S.held relay.now) }
+    ensures { result ≡ free_place relay.now }
 {
     relay.table.lowest_free(relay.spool.count())
 }
@@ -36,7 +35,7 @@ fn check_room<S: Spool, R: Row>(
     ledger: &Ledger<R>,
     key: &R::Key,
 ) -> Result<usize, ArrivalFault>
-    ensures { result ≡ room_for R.Row.kind (view S.Spool.held relay.now) key.now ledger.now.rows.now }
+    ensures { result ≡ room_for R.Row.kind relay.now key.now ledger.now.rows.now }
 {
     check_row(ledger, relay.time as u64, key)?;
     free_place(relay).ok_or(ArrivalFault::NoPlace)
@@ -60,7 +59,7 @@ pub fn take_in<S: Spool, R: Row>(
     about: About,
     rec: &[u8],
 ) -> Result<Arrived, ArrivalFault>
-    ensures outcome { taken result (view S.Spool.held relay.new) ledger.new.rows.now ≡ taking_in R.Row.kind (view S.Spool.held relay.old) row on about rec.now ledger.old.rows.now }
+    ensures outcome { taken result relay.new ledger.new.rows.now ≡ taking_in R.Row.kind relay.old row on about rec.now ledger.old.rows.now }
     ensures lender { ledger.new.rows.ghost_name ≡ ledger.old.rows.ghost_name }
 {
     let place = check_room(relay, ledger, &row.key())?;

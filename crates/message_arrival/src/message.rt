@@ -1,7 +1,6 @@
 // What comes of a message that is live.
 ghost use Rattle.std.specs.Prelude.{◌≡◌};
 ghost use Rattle.envelope.specs.Views.{view as fields_of};
-ghost use Rattle.relay.specs.States.{view};
 ghost use Rattle.message_arrival.specs.Messages.{message_row_of, message_taken};
 ghost use Rattle.intake.specs.Steps.{taken};
 
@@ -39,7 +38,7 @@ pub fn take_message<S: Spool>(
     routes: &[RouteRow],
     messages: &mut Ledger<MessageRow>,
 ) -> Result<Arrived, ArrivalFault>
-    ensures outcome { taken result (view S.held relay.new) messages.new.rows.now ≡ message_taken (view S.held relay.old) neighbour (fields_of parts.entry) rec.now routes.now messages.old.rows.now }
+    ensures outcome { taken result relay.new messages.new.rows.now ≡ message_taken relay.old neighbour (fields_of parts.entry) rec.now routes.now messages.old.rows.now }
     ensures lender { messages.new.rows.ghost_name ≡ messages.old.rows.ghost_name }
 {
     let key = or_no_row(MessageKey::new(parts.fr.bytes, parts.on.bytes))?;

@@ -1,6 +1,5 @@
 // Giving the oldest entry of the inbox to the local office, and the oldest notice to its contacts.
 ghost use Rattle.std.specs.Prelude.{◌≡◌};
-ghost use Rattle.relay.specs.States.{view};
 ghost use Rattle.searches.specs.declared.search.Wanted.TheVariants.{Entry, Notified};
 ghost use Rattle.searches.specs.Earliest.{earliest};
 ghost use Rattle.office.specs.Gifts.{kind_at, taken_answer, taken_buffer, taken_state, oldest_answer, oldest_buffer, oldest_state};
@@ -38,9 +37,9 @@ fn take<S: Spool>(
     found: Option<Found>,
     buf: &mut [u8],
 ) -> Result<Option<Given>, SpoolFault>
-    ensures answer { result ≡ taken_answer (view S.held relay.old) found buf.old }
-    ensures buffer { buf.new ≡ taken_buffer (view S.held relay.old) found buf.old }
-    ensures state { view S.held relay.new ≡ taken_state (view S.held relay.old) found buf.old }
+    ensures answer { result ≡ taken_answer relay.old found buf.old }
+    ensures buffer { buf.new ≡ taken_buffer relay.old found buf.old }
+    ensures state { relay.new ≡ taken_state relay.old found buf.old }
 {
     let Some(found) = found else {
         return Ok(None);
@@ -59,9 +58,9 @@ pub fn collect<S: Spool>(
     clock: u32,
     buf: &mut [u8],
 ) -> Result<Option<Given>, SpoolFault>
-    ensures answer { result ≡ oldest_answer Entry (view S.held relay.old) clock buf.old }
-    ensures buffer { buf.new ≡ oldest_buffer Entry (view S.held relay.old) clock buf.old }
-    ensures state { view S.held relay.new ≡ oldest_state Entry (view S.held relay.old) clock buf.old }
+    ensures answer { result ≡ oldest_answer Entry relay.old clock buf.old }
+    ensures buffer { buf.new ≡ oldest_buffer Entry relay.old clock buf.old }
+    ensures state { relay.new ≡ oldest_state Entry relay.old clock buf.old }
 {
     relay.tick(clock);
     let found = oldest_entry(&relay.table);
@@ -75,9 +74,9 @@ pub fn notice<S: Spool>(
     clock: u32,
     buf: &mut [u8],
 ) -> Result<Option<Given>, SpoolFault>
-    ensures answer { result ≡ oldest_answer Notified (view S.held relay.old) clock buf.old }
-    ensures buffer { buf.new ≡ oldest_buffer Notified (view S.held relay.old) clock buf.old }
-    ensures state { view S.held relay.new ≡ oldest_state Notified (view S.held relay.old) clock buf.old }
+    ensures answer { result ≡ oldest_answer Notified relay.old clock buf.old }
+    ensures buffer { buf.new ≡ oldest_buffer Notified relay.old clock buf.old }
+    ensures state { relay.new ≡ oldest_state Notified relay.old clock buf.old }
 {
     relay.tick(clock);
     let found = oldest_notice(&relay.table);

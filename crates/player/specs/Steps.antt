@@ -5,7 +5,7 @@ use Rattle.message_rows.specs.declared.message.MessageRow.{MessageRow}
 use Rattle.status_rows.specs.declared.status.StatusRow.{StatusRow}
 use Rattle.client_rows.specs.declared.white_list.WhiteListRow.{WhiteListRow}
 use Rattle.routing.specs.declared.row.RouteRow.{RouteRow}
-use Rattle.relay.specs.States.{State, view, timed}
+use Rattle.relay.specs.States.{State, timed}
 use Rattle.connection.specs.Admissions.{opened, admission, may_send}
 use Rattle.connection.specs.declared.admitted.Admitted.{Admitted}
 use Rattle.connection.specs.declared.admission.NotAdmitted.{NotAdmitted}
@@ -34,9 +34,9 @@ pub record World : Type 0 where
 abbrev pub world : State → List Slot → List MessageRow → List StatusRow → World
 world s slots ms ss = record { state = s; slots = slots; messages = ms; statuses = ss }
 
--- what a player has and holds, over a spool of this meaning
-abbrev pub world_in : {S : Type 0} → (S → List (List ℕ)) → Player S → World
-world_in held p = world (view held p.relay) p.connections.slots p.ledgers.messages.rows.now p.ledgers.statuses.rows.now
+-- what a player has and holds
+abbrev pub world_in : {S : Type 0} → Player S → World
+world_in p = world p.relay p.connections.slots p.ledgers.messages.rows.now p.ledgers.statuses.rows.now
 
 -- the ledgers are still over the same memory
 abbrev pub SameMemory : {S : Type 0} → Player S → Player S → Type 0

@@ -1,7 +1,7 @@
 // A relay with its connections and its ledgers.
 ghost use Rattle.std.specs.Prelude.{◌≡◌, [], length, replicate};
 ghost use Rattle.text.specs.Addresses.{address_text};
-ghost use Rattle.relay.specs.States.{view, fresh};
+ghost use Rattle.relay.specs.States.{fresh};
 ghost use Rattle.connections.specs.declared.connections.Slot.TheVariants.{Closed};
 ghost use Rattle.message_rows.specs.Messages.{freed_message};
 ghost use Rattle.status_rows.specs.Statuses.{freed_status};
@@ -32,13 +32,13 @@ impl<'a, S: Spool> Player<'a, S> {
         messages: &'a mut [MessageRow],
         statuses: &'a mut [StatusRow],
     ) -> Player<'a, S>
-        ensures state { view S.held result.relay ≡ fresh (address_text address) (S.held spool) }
+        ensures state { result.relay ≡ fresh (address_text address) (S.held spool) }
         ensures connections { result.connections.slots ≡ replicate 64 Closed }
         ensures messages { result.ledgers.messages.rows.now ≡ replicate (length messages.old) freed_message }
         ensures statuses { result.ledgers.statuses.rows.now ≡ replicate (length statuses.old) freed_status }
         ensures messages_lender { result.ledgers.messages.rows.ghost_name ≡ messages.entry.ghost_name }
         ensures statuses_lender { result.ledgers.statuses.rows.ghost_name ≡ statuses.entry.ghost_name }
-        ensures begins_the_account { Agrees (account []) (world_in S.held result) }
+        ensures begins_the_account { Agrees (account []) (world_in result) }
     {
         Player {
             relay: Relay::new(address, spool),

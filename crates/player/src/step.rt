@@ -1,6 +1,5 @@
 // One call.
 ghost use Rattle.std.specs.Prelude.{◌≡◌, ℕ, List, [], ◌∷◌, ◌++◌};
-ghost use Rattle.relay.specs.States.{view};
 ghost use Rattle.player.specs.Answers.{answer_of};
 ghost use Rattle.account.specs.Laws.{Laws};
 ghost use Rattle.deeds.specs.Ranges.{InRange};
@@ -30,7 +29,7 @@ fn admit<S: Spool>(
     fingerprint: [u8; 32],
     clients: &Ledger<WhiteListRow>,
 ) -> Told
-    ensures outcome { (buf : List ℕ) → after (answer_of result) (world_in S.held player.new) buf ≡ admitted (world_in S.held player.old) clock connection fingerprint clients.now.rows.now buf }
+    ensures outcome { (buf : List ℕ) → after (answer_of result) (world_in player.new) buf ≡ admitted (world_in player.old) clock connection fingerprint clients.now.rows.now buf }
     ensures memory { SameMemory player.old player.new }
 {
     if !player.connections.is_free(connection) {
@@ -59,7 +58,7 @@ fn bring_on<S: Spool>(
     rec: &[u8],
     routes: &[RouteRow],
 ) -> Told
-    ensures outcome { (buf : List ℕ) → after (answer_of result) (world_in S.held player.new) buf ≡ arrived (world_in S.held player.old) clock connection rec.now routes.now buf }
+    ensures outcome { (buf : List ℕ) → after (answer_of result) (world_in player.new) buf ≡ arrived (world_in player.old) clock connection rec.now routes.now buf }
     ensures memory { SameMemory player.old player.new }
 {
     match player.connections.at(connection) {
@@ -83,7 +82,7 @@ fn bring<S: Spool>(
     rec: &[u8],
     routes: &[RouteRow],
 ) -> Told
-    ensures outcome { (buf : List ℕ) → after (answer_of result) (world_in S.held player.new) buf ≡ arrived (world_in S.held player.old) clock connection rec.now routes.now buf }
+    ensures outcome { (buf : List ℕ) → after (answer_of result) (world_in player.new) buf ≡ arrived (world_in player.old) clock connection rec.now routes.now buf }
     ensures memory { SameMemory player.old player.new }
     ensures in_range { InRange rec.now }
 {
@@ -91,7 +90,7 @@ fn bring<S: Spool>(
 }
 
 fn close<S: Spool>(player: &mut Player<'_, S>, connection: usize) -> Told
-    ensures outcome { (buf : List ℕ) → after (answer_of result) (world_in S.held player.new) buf ≡ closed (world_in S.held player.old) connection buf }
+    ensures outcome { (buf : List ℕ) → after (answer_of result) (world_in player.new) buf ≡ closed (world_in player.old) connection buf }
     ensures memory { SameMemory player.old player.new }
 {
     match player.connections.at(connection) {
@@ -105,7 +104,7 @@ fn close<S: Spool>(player: &mut Player<'_, S>, connection: usize) -> Told
 
 // Makes one call.
 fn make<S: Spool>(player: &mut Player<'_, S>, call: Call<'_>, buf: &mut [u8]) -> Told
-    ensures outcome { after (answer_of result) (world_in S.held player.new) buf.new ≡ stepped (world_in S.held player.old) call.entry buf.old }
+    ensures outcome { after (answer_of result) (world_in player.new) buf.new ≡ stepped (world_in player.old) call.entry buf.old }
     ensures memory { SameMemory player.old player.new }
     ensures brings { Brings call.entry }
 {
@@ -145,10 +144,10 @@ fn make<S: Spool>(player: &mut Player<'_, S>, call: Call<'_>, buf: &mut [u8]) ->
 // Makes one call. Whatever was called before, and whatever this call brings: where the relay and its ledger of messages are
 // as the account of a log has it, they are afterwards as the account of the log with this call has it, and so the laws hold.
 pub fn step<S: Spool>(player: &mut Player<'_, S>, call: Call<'_>, buf: &mut [u8]) -> Told
-    ensures outcome { after (answer_of result) (world_in S.held player.new) buf.new ≡ stepped (world_in S.held player.old) call.entry buf.old }
+    ensures outcome { after (answer_of result) (world_in player.new) buf.new ≡ stepped (world_in player.old) call.entry buf.old }
     ensures memory { SameMemory player.old player.new }
-    ensures account_goes_on { (log : List Event) → Agrees (account log) (world_in S.held player.old) → Agrees (account (log ++ (event call.entry (answer_of result) buf.new ∷ []))) (world_in S.held player.new) }
-    ensures no_request_lost_or_doubled { (log : List Event) → Agrees (account log) (world_in S.held player.old) → Laws (account (log ++ (event call.entry (answer_of result) buf.new ∷ []))) (view S.held player.new.relay) }
+    ensures account_goes_on { (log : List Event) → Agrees (account log) (world_in player.old) → Agrees (account (log ++ (event call.entry (answer_of result) buf.new ∷ []))) (world_in player.new) }
+    ensures no_request_lost_or_doubled { (log : List Event) → Agrees (account log) (world_in player.old) → Laws (account (log ++ (event call.entry (answer_of result) buf.new ∷ []))) player.new.relay }
 {
     make(player, call, buf)
 }

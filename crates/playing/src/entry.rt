@@ -44,10 +44,10 @@ fn front_of(call: Call<'_>) -> usize
 
 // Makes one call with the front of its page as the buffer, and enters it.
 pub(crate) fn enter<'a, S: Spool>(player: &mut Player<'_, S>, call: Call<'a>, entry: &mut Entry<'a>)
-    ensures outcome { after (answer_of entry.new.told) (world_in S.held player.new) entry.new.page ≡ entered (world_in S.held player.old) call.entry entry.old.page }
+    ensures outcome { after (answer_of entry.new.told) (world_in player.new) entry.new.page ≡ entered (world_in player.old) call.entry entry.old.page }
     ensures memory { SameMemory player.old player.new }
     ensures brought { entry.new.call ≡ call.entry }
-    ensures account_goes_on { (log : List Event) → Agrees (account log) (world_in S.held player.old) → Agrees (account (log ++ (event_of entry.new ∷ []))) (world_in S.held player.new) }
+    ensures account_goes_on { (log : List Event) → Agrees (account log) (world_in player.old) → Agrees (account (log ++ (event_of entry.new ∷ []))) (world_in player.new) }
 {
     let room = front_of(call);
     entry.call = call;

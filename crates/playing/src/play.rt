@@ -1,7 +1,6 @@
 // A whole list of calls.
 ghost use Rattle.std.specs.Prelude.{◌≡◌, ◌<◌, map, length, take, MatchResult, IfOk};
 ghost use Rattle.text.specs.Addresses.{address_text};
-ghost use Rattle.relay.specs.States.{view};
 ghost use Rattle.account.specs.Laws.{Laws};
 ghost use Rattle.player.specs.Steps.{world_in};
 ghost use Rattle.player.specs.Runs.{account};
@@ -33,8 +32,8 @@ pub fn play<'a, 'm, S: Spool>(
     calls: &[Call<'a>],
     log: &mut [Entry<'a>],
 ) -> Result<Player<'m, S>, LogTooShort<'m, S>>
-    ensures outcome { IfOk result (λ player. Played (begun (address_text address) (S.held spool) (length messages.old) (length statuses.old)) calls.now log.old log.new (world_in S.held player)) }
-    ensures played { MatchResult result (λ player. (map call_of (take (length calls.now) log.new) ≡ calls.now) × Laws (account (map event_of (take (length calls.now) log.new))) (view S.held player.relay)) (λ s. (s.spool ≡ spool) × (length log.old < length calls.now) × (log.new ≡ log.old) × (s.messages.now ≡ messages.old) × (s.statuses.now ≡ statuses.old)) }
+    ensures outcome { IfOk result (λ player. Played (begun (address_text address) (S.held spool) (length messages.old) (length statuses.old)) calls.now log.old log.new (world_in player)) }
+    ensures played { MatchResult result (λ player. (map call_of (take (length calls.now) log.new) ≡ calls.now) × Laws (account (map event_of (take (length calls.now) log.new))) player.relay) (λ s. (s.spool ≡ spool) × (length log.old < length calls.now) × (log.new ≡ log.old) × (s.messages.now ≡ messages.old) × (s.statuses.now ≡ statuses.old)) }
     ensures memory { MatchResult result (λ player. (player.ledgers.messages.rows.ghost_name ≡ messages.entry.ghost_name) × (player.ledgers.statuses.rows.ghost_name ≡ statuses.entry.ghost_name)) (λ s. (s.messages.ghost_name ≡ messages.entry.ghost_name) × (s.statuses.ghost_name ≡ statuses.entry.ghost_name)) }
 {
     if log.len() < calls.len() {

@@ -1,3 +1,4 @@
 pub mod States
+pub mod Seen
 pub mod Abouts
 pub mod Moves

@@ -1,10 +1,8 @@
 -- The relay as its calls see it: the time, the last try number given, its address, the standings, and what each place holds.
 use Rattle.std.specs.Prelude.{List, ℕ, max, replicate}
-use Rattle.text.specs.Addresses.{address_text}
 use Rattle.spool.specs.Uses.{emptied}
 use Rattle.standing.specs.declared.standing.Standing.{Standing}
 use Rattle.standing.specs.declared.standing.Standing.TheVariants.{Free}
-use Rattle.relay.specs.declared.relay.Relay.{Relay}
 
 pub record State : Type 0 where
   pub time : ℕ
@@ -12,10 +10,6 @@ pub record State : Type 0 where
   pub address : List ℕ
   pub standings : List Standing
   pub places : List (List ℕ)
-
--- a relay over a spool whose places hold `held`
-abbrev pub view : {S : Type 0} → (S → List (List ℕ)) → Relay S → State
-view held r = record { time = r.time; given = r.given; address = address_text r.address; standings = r.table.standings; places = held r.spool }
 
 -- a new relay: at time 0, no try given, each place free and empty
 abbrev pub fresh : List ℕ → List (List ℕ) → State

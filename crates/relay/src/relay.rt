@@ -2,7 +2,7 @@
 ghost use Rattle.std.specs.Prelude.{◌≡◌, replicate};
 ghost use Rattle.text.specs.Addresses.{address_text};
 ghost use Rattle.standing.specs.declared.standing.Standing.TheVariants.{Free};
-ghost use Rattle.relay.specs.States.{view, fresh, timed};
+ghost use Rattle.relay.specs.States.{fresh, timed};
 ghost use Rattle.relay.specs.Moves.{settled, discharged};
 
 use routing::row::Way;
@@ -10,6 +10,7 @@ use spool::Spool;
 use spool::uses::clear_all;
 use standing::standing::About;
 use standing::table::Table;
+use std::marker::Model;
 use text::address::Address;
 
 // A store-and-forward relay. Its fields are open, since the calls on it stand in crates of their own; no call relies on how
@@ -25,42 +26,41 @@ pub struct Relay<S: Spool> {
     pub spool: S,
 }
 
-// A relay at time 0 over a spool as it is: no try given, each place free.
-fn unused<S: Spool>(address: Address, spool: S) -> Relay<S>
-    ensures time { result.time ≡ 0 }
-    ensures given { result.given ≡ 0 }
-    ensures address { result.address ≡ address }
-    ensures standings { result.table.standings ≡ replicate 256 Free }
-    ensures spool { result.spool ≡ spool }
-{
-    Relay {
-        time: 0,
-        given: 0,
-        address,
-        table: Table::new(),
-        spool,
-    }
+impl<S: Spool> Model for Relay<S> {
+    ghost use Rattle.relay.specs.States.{State};
+
+    ghost Value = { State };
+
+    ghost use Rattle.relay.specs.Seen.{view as seen_over};
+
+    ghost view = { λ r. seen_over S.held r };
 }
 
 impl<S: Spool> Relay<S> {
     // A relay at time 0 with every place cleared, whatever the spool held.
     pub fn new(address: Address, mut spool: S) -> Relay<S>
-        ensures { view S.held result ≡ fresh (address_text address) (S.held spool) }
+        ensures { result ≡ fresh (address_text address) (S.held spool) }
     {
         clear_all(&mut spool);
-        unused(address, spool)
+        Relay {
+            time: 0,
+            given: 0,
+            address,
+            table: Table::new(),
+            spool,
+        }
     }
 
     // Takes a clock reading: the relay's time never goes back.
     pub fn tick(&mut self, clock: u32)
-        ensures { view S.held self.new ≡ timed (view S.held self.old) clock }
+        ensures { self.new ≡ timed self.old clock }
     {
         self.time = self.time.max(clock);
     }
 
     // Puts an envelope into a place: in the inbox where its way is the local office, else waiting and due now.
     pub fn settle(&mut self, place: usize, way: Way, about: About, bytes: &[u8])
-        ensures { view S.held self.new ≡ settled (view S.held self.old) place way about bytes.now }
+        ensures { self.new ≡ settled self.old place way about bytes.now }
     {
         let _ = self.spool.store(place, bytes);
         match way {
@@ -71,7 +71,7 @@ impl<S: Spool> Relay<S> {
 
     // Empties a place in the spool, and frees it.
     pub fn discharge(&mut self, place: usize)
-        ensures { view S.held self.new ≡ discharged (view S.held self.old) place }
+        ensures { self.new ≡ discharged self.old place }
     {
         let _ = self.spool.clear(place);
         self.table.free(place);

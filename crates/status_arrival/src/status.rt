@@ -1,7 +1,6 @@
 // What comes of a status that is live.
 ghost use Rattle.std.specs.Prelude.{◌≡◌};
 ghost use Rattle.envelope.specs.Views.{view as fields_of};
-ghost use Rattle.relay.specs.States.{view};
 ghost use Rattle.status_arrival.specs.Statuses.{status_row_of, is_unwanted, wanted_taken, status_taken};
 ghost use Rattle.intake.specs.Steps.{taken};
 
@@ -42,7 +41,7 @@ fn take_wanted<S: Spool>(
     routes: &[RouteRow],
     statuses: &mut Ledger<StatusRow>,
 ) -> Result<Arrived, ArrivalFault>
-    ensures outcome { taken result (view S.held relay.new) statuses.new.rows.now ≡ wanted_taken (view S.held relay.old) neighbour code (fields_of parts.entry) rec.now routes.now statuses.old.rows.now }
+    ensures outcome { taken result relay.new statuses.new.rows.now ≡ wanted_taken relay.old neighbour code (fields_of parts.entry) rec.now routes.now statuses.old.rows.now }
     ensures lender { statuses.new.rows.ghost_name ≡ statuses.old.rows.ghost_name }
 {
     let key = or_no_row(StatusKey::new(parts.fr.bytes, parts.ad.bytes, parts.on.bytes, code))?;
@@ -71,7 +70,7 @@ pub fn take_status<S: Spool>(
     routes: &[RouteRow],
     statuses: &mut Ledger<StatusRow>,
 ) -> Result<Arrived, ArrivalFault>
-    ensures outcome { taken result (view S.held relay.new) statuses.new.rows.now ≡ status_taken (view S.held relay.old) neighbour code (fields_of parts.entry) rec.now routes.now statuses.old.rows.now }
+    ensures outcome { taken result relay.new statuses.new.rows.now ≡ status_taken relay.old neighbour code (fields_of parts.entry) rec.now routes.now statuses.old.rows.now }
     ensures lender { statuses.new.rows.ghost_name ≡ statuses.old.rows.ghost_name }
 {
     if is_unwanted(code, parts) {

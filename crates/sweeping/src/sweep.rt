@@ -1,6 +1,5 @@
 // What is due by the clock alone: a try that nobody answered, a message that expired, a status that was kept long enough.
 ghost use Rattle.std.specs.Prelude.{◌≡◌, max, length};
-ghost use Rattle.relay.specs.States.{view};
 ghost use Rattle.sweeping.specs.Sweeps.{chore, sweep_answer, sweep_state, LowestDue};
 
 use ending::act::{Act, Done, Task, perform};
@@ -42,8 +41,8 @@ fn chore(duty: Duty, standing: Standing) -> Option<Task>
 }
 
 fn sweep_one<S: Spool>(relay: &mut Relay<S>, clock: u32) -> Option<Swept>
-    ensures answer { result ≡ sweep_answer (view S.held relay.old) clock }
-    ensures state { view S.held relay.new ≡ sweep_state (view S.held relay.old) clock }
+    ensures answer { result ≡ sweep_answer relay.old clock }
+    ensures state { relay.new ≡ sweep_state relay.old clock }
 {
     relay.tick(clock);
     let found = first_duty(&relay.table, relay.time)?;
@@ -56,9 +55,9 @@ fn sweep_one<S: Spool>(relay: &mut Relay<S>, clock: u32) -> Option<Swept>
 // Does what is due at the lowest place where something is; nothing where nothing is due. (The table has 256 standings by its
 // type; a contract out here is not told so, and says it as a premise.)
 pub fn sweep<S: Spool>(relay: &mut Relay<S>, clock: u32) -> Option<Swept>
-    ensures answer { result ≡ sweep_answer (view S.held relay.old) clock }
-    ensures state { view S.held relay.new ≡ sweep_state (view S.held relay.old) clock }
-    ensures lowest_due { length relay.old.table.standings ≡ 256 → LowestDue (max relay.old.time clock) relay.old.table.standings result }
+    ensures answer { result ≡ sweep_answer relay.old clock }
+    ensures state { relay.new ≡ sweep_state relay.old clock }
+    ensures lowest_due { length relay.old.standings ≡ 256 → LowestDue (max relay.old.time clock) relay.old.standings result }
 {
     sweep_one(relay, clock)
 }

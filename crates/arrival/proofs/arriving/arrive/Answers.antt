@@ -1,11 +1,10 @@
-use Rattle.relay.specs.States.{view}
 use Rattle.connection.specs.Admissions.{may_send}
 use Rattle.arrival.proofs.Settles.{only_the_time, is_stored}
 use Rattle.arrival.proofs.arriving.arrive.Goals as goal
 
 pub returns : goal.returns
 returns g c =
-    let s = view g.S.Spool.held c.args.relay.now in
+    let s = c.args.relay.now in
     let may = may_send c.args.connection.now in
     let neighbour = c.args.connection.now.neighbour in
     let bytes = c.args.rec.now in

@@ -11,7 +11,7 @@ use Rattle.playing.proofs.play.play.Given as goal
 abbrev pub invariant-loop-i : goal.invariant-loop-i
 invariant-loop-i g l =
     (map call_of (take l.i l.log) ≡ take l.i l.calls)
-    × Agrees (account (map event_of (take l.i l.log))) (world_in g.S.Spool.held l.player)
-    × Playing (begun (address_text l.fn.address) (g.S.Spool.held l.fn.spool) (length l.fn.messages) (length l.fn.statuses)) l.calls l.fn.log l.i l.log (world_in g.S.Spool.held l.player)
+    × Agrees (account (map event_of (take l.i l.log))) (world_in l.player)
+    × Playing (begun (address_text l.fn.address) (g.S.Spool.held l.fn.spool) (length l.fn.messages) (length l.fn.statuses)) l.calls l.fn.log l.i l.log (world_in l.player)
     × (l.player.ledgers.messages.rows.ghost_name ≡ l.initial.player.ledgers.messages.rows.ghost_name)
     × (l.player.ledgers.statuses.rows.ghost_name ≡ l.initial.player.ledgers.statuses.rows.ghost_name)

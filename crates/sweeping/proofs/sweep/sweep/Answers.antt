@@ -1,11 +1,11 @@
 use Rattle.std.proofs.Common.{sym, subst}
-use Rattle.relay.specs.States.{view, timed}
+use Rattle.relay.specs.States.{timed}
 use Rattle.sweeping.specs.Sweeps.{LowestDue}
 use Rattle.sweeping.proofs.Lowest.{lowest}
 use Rattle.sweeping.proofs.sweep.sweep.Goals as goal
 
 pub returns : goal.returns
 returns g c =
-    let s = timed (view g.S.Spool.held c.args.relay.now) c.args.clock in
+    let s = timed c.args.relay.now c.args.clock in
     let e = c.sweep_one.ensures.answer in
     record { answer = e; state = c.sweep_one.ensures.state; lowest_due = λ table. subst (LowestDue s.time s.standings) (sym e) (lowest s table) }
