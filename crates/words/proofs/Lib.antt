@@ -1,2 +1,1 @@
-mod Leads
 mod Runs

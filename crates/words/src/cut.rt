@@ -1,8 +1,8 @@
 // A line cut into its words, and a word into key and value.
-ghost use Rattle.std.specs.Prelude.{◌≡◌, ◌≤◌, length, IfOk};
+ghost use Rattle.std.specs.Prelude.{◌≡◌, ◌≤◌, ◌==◌, length, position, IfOk};
 ghost use Rattle.std.specs.List.{prefix_len};
 ghost use Rattle.std.specs.Str.{bytes_eq};
-ghost use Rattle.words.specs.Cuts.{is_gap, in_word, first_word, after_word, ends_words, seen, words_of, is_other, len_before, key_value_of, seen_sides};
+ghost use Rattle.words.specs.Cuts.{is_gap, in_word, first_word, after_word, ends_words, seen, words_of, len_before, key_value_of, seen_sides};
 
 use std::alloc::{AllocError, Global};
 
@@ -17,12 +17,7 @@ fn gap_len(text: &[u8]) -> usize
     ensures value { result ≡ prefix_len is_gap text.now }
     ensures within { result ≤ length text.now }
 {
-    for (i, b) in text.iter().enumerate() {
-        if !is_gap(*b) {
-            return i;
-        }
-    }
-    text.len()
+    text.iter().take_while(|b| is_gap(**b)).count()
 }
 
 // How many bytes stand before the first gap.
@@ -30,12 +25,7 @@ fn word_len(text: &[u8]) -> usize
     ensures value { result ≡ prefix_len in_word text.now }
     ensures within { result ≤ length text.now }
 {
-    for (i, b) in text.iter().enumerate() {
-        if is_gap(*b) {
-            return i;
-        }
-    }
-    text.len()
+    text.iter().take_while(|b| !is_gap(**b)).count()
 }
 
 #[derive(Clone, Copy)]
@@ -77,47 +67,32 @@ pub fn words<'a>(heap: Global, line: &'a [u8]) -> Result<Vec<&'a [u8]>, AllocErr
     }
 }
 
-fn is_other(stop: u8, b: u8) -> bool
-    ensures { result ≡ is_other stop b }
-{
-    b != stop
-}
-
 // How many bytes stand before the first `stop`, or all.
 pub fn len_before(text: &[u8], stop: u8) -> usize
     ensures value { result ≡ len_before stop text.now }
     ensures within { result ≤ length text.now }
 {
-    for (i, b) in text.iter().enumerate() {
-        if !is_other(stop, *b) {
-            return i;
-        }
-    }
-    text.len()
+    text.iter().take_while(|b| **b != stop).count()
+}
+
+// Where the first `=` stands.
+fn sign_at(word: &[u8]) -> Option<usize>
+    ensures { result ≡ position (λ b. b == 61) word.now }
+{
+    word.iter().position(|b| *b == b'=')
 }
 
 // What stands before and after the first `=`.
 pub fn key_value(word: &[u8]) -> Option<(&[u8], &[u8])>
     ensures { seen_sides result ≡ key_value_of word.now }
 {
-    let end = len_before(word, b'=');
-    if end == word.len() {
-        return None;
-    }
-    let (key, _) = word.split_at(end);
-    let (_, value) = word.split_at(end + 1);
-    Some((key, value))
-}
-
-fn are_same(a: &[u8], b: &[u8]) -> bool
-    ensures { result ≡ bytes_eq a.now b.now }
-{
-    a == b
+    let at = sign_at(word)?;
+    Some((&word[..at], &word[at + 1..]))
 }
 
 // Whether these are the bytes of a known word.
 pub fn is_word(word: &[u8], known: &[u8]) -> bool
     ensures { result ≡ bytes_eq word.now known.now }
 {
-    are_same(word, known)
+    word == known
 }
