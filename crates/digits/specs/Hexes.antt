@@ -27,11 +27,6 @@ hex_of [] = Some []
 hex_of (a ∷ []) = None
 hex_of (a ∷ (b ∷ cs)) = in_front (paired (nibble a) (nibble b)) (hex_of cs)
 
--- the bytes, or none where the text writes none
-abbrev pub or_none : Option (List ℕ) → List ℕ
-or_none (Some bs) = bs
-or_none None = []
-
 -- the hex digit, in small letters, of a number below 16
 abbrev pub hex_digit : ℕ → ℕ
 hex_digit n = cond (nat_lt n 10) (48 + n) (87 + n)

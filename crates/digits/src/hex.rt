@@ -1,9 +1,11 @@
-// Bytes as hex digits, read and written.
-ghost use Rattle.std.specs.Prelude.{◌≡◌, ℕ, ◌/◌, ◌%◌, ◌<◌, true, List, [], ◌∷◌, ◌++◌, take, is_some, is_ok, IfOk, if◌then◌else◌, Some, None, vec_len, MatchResult};
-ghost use Rattle.digits.specs.Hexes.{nibble, paired, hex_of, or_none, hex_digit, hex_text, all_bytes};
+// Bytes as hex digits, read and written. The library's `hex` tells faults that no answer tells, and makes a text of its own
+// of all that it writes.
+ghost use Rattle.std.specs.Prelude.{◌≡◌, ℕ, ◌/◌, ◌%◌, ◌<◌, true, List, [], ◌∷◌, ◌++◌, take, IfOk, Some, vec_items, vec_len, MatchResult};
+ghost use Rattle.std.specs.Option.{option_map};
+ghost use Rattle.digits.specs.Hexes.{nibble, paired, hex_of, hex_digit, hex_text, all_bytes};
 ghost use Rattle.digits.specs.Appends.{appended};
 
-use std::alloc::AllocError;
+use std::alloc::{AllocError, Global};
 
 fn nibble_of(c: u8) -> Option<u8>
     ensures value { result ≡ nibble c }
@@ -25,32 +27,20 @@ fn byte_of(a: u8, b: u8) -> Option<u8>
     Some(16 * high + low)
 }
 
-// Adds the bytes that the digits write, up to the first two that write none; whether all of the text is such digits.
-fn push_bytes(text: &[u8], out: &mut Vec<u8>) -> Result<bool, AllocError>
-    requires { out.old.items ≡ [] }
-    ensures { IfOk result (λ ok. hex_of text.now ≡ (if ok then Some out.new.items else None)) }
+// The bytes that the hex digits write; none where the text is no such digits.
+pub fn hex(heap: Global, text: &[u8]) -> Result<Option<Vec<u8>>, AllocError>
+    ensures { IfOk result (λ bytes. option_map vec_items bytes ≡ hex_of text.now) }
 {
-    for i in 0..text.len() / 2 {
-        match byte_of(text[2 * i], text[2 * i + 1]) {
-            Some(x) => out.push(x)?,
-            None => return Ok(false),
+    let mut bytes = Vec::new(heap);
+    let mut rest = text;
+    while let [a, b, after @ ..] = rest {
+        match byte_of(*a, *b) {
+            Some(x) => bytes.push(x)?,
+            None => return Ok(None),
         }
+        rest = after;
     }
-    Ok(text.len() % 2 == 0)
-}
-
-// Fills `out` with the bytes that the hex digits write. `out` is empty where the text is no such digits, or there is no memory.
-pub fn hex(text: &[u8], out: &mut Vec<u8>) -> Result<bool, AllocError>
-    ensures answer { IfOk result (λ ok. ok ≡ is_some (hex_of text.now)) }
-    ensures after { out.new.items ≡ (if is_ok result then or_none (hex_of text.now) else []) }
-{
-    out.clear();
-    let done = push_bytes(text, out);
-    match done {
-        Ok(true) => {}
-        _ => out.clear(),
-    }
-    done
+    Ok(rest.is_empty().then_some(bytes))
 }
 
 fn hex_digit(n: u8) -> u8
@@ -76,9 +66,10 @@ fn push_each(bytes: &[u8], out: &mut Vec<u8>) -> Result<(), AllocError>
     Ok(())
 }
 
-// Adds the bytes as hex digits, all or nothing.
-fn push_hex(bytes: &[u8], out: &mut Vec<u8>) -> Result<(), AllocError>
-    ensures { out.new.items ≡ appended result (hex_text bytes.now) out.old.items }
+// Adds the bytes as hex digits in small letters; with no memory for them all, nothing.
+pub fn write_hex(bytes: &[u8], out: &mut Vec<u8>) -> Result<(), AllocError>
+    ensures text { out.new.items ≡ appended result (hex_text bytes.now) out.old.items }
+    ensures reads_back { (bs : List ℕ) → all_bytes bs ≡ true → hex_of (hex_text bs) ≡ Some bs }
 {
     let before = out.len();
     let done = push_each(bytes, out);
@@ -86,12 +77,4 @@ fn push_hex(bytes: &[u8], out: &mut Vec<u8>) -> Result<(), AllocError>
         out.truncate(before);
     }
     done
-}
-
-// Adds the bytes as hex digits in small letters; with no memory for them all, nothing.
-pub fn write_hex(bytes: &[u8], out: &mut Vec<u8>) -> Result<(), AllocError>
-    ensures text { out.new.items ≡ appended result (hex_text bytes.now) out.old.items }
-    ensures reads_back { (bs : List ℕ) → all_bytes bs ≡ true → hex_of (hex_text bs) ≡ Some bs }
-{
-    push_hex(bytes, out)
 }

@@ -3,6 +3,7 @@ ghost use Rattle.std.specs.Prelude.{◌≡◌, ℕ, ◌≤◌, length, Some, dec
 ghost use Rattle.digits.specs.Numbers.{digit_on, number_of};
 ghost use Rattle.digits.specs.Appends.{appended};
 
+use itoa::Buffer;
 use std::alloc::AllocError;
 
 // The number with one digit more, where `b` is a digit and the number does not pass `most`.
@@ -19,7 +20,8 @@ fn digit_on(most: u64, n: u64, b: u8) -> Option<u64>
     Some(10 * n + digit)
 }
 
-// The number that the digits write, where there are only digits, one or more, and the number is at most `most`.
+// The number that the digits write, where there are only digits, one or more, and the number is at most `most`. (`parse`
+// takes a sign too, and only text.)
 pub fn number(text: &[u8], most: u64) -> Option<u64>
     ensures { result ≡ number_of most text.now }
 {
@@ -33,20 +35,12 @@ pub fn number(text: &[u8], most: u64) -> Option<u64>
     Some(n)
 }
 
-// Adds the digits of the number; with no memory for them, nothing.
-fn push_digits(n: u64, out: &mut Vec<u8>) -> Result<(), AllocError>
-    ensures { out.new.items ≡ appended result (decimal n) out.old.items }
-{
-    let heap = *out.allocator();
-    let text = n.to_string(heap)?;
-    out.extend_from_slice(text.as_bytes())
-}
-
 // Adds the digits of the number, no zero in front; with no memory for them, nothing.
 pub fn write_number(n: u64, out: &mut Vec<u8>) -> Result<(), AllocError>
     ensures text { out.new.items ≡ appended result (decimal n) out.old.items }
     ensures reads_back { (most : ℕ) → n ≤ most → number_of most (decimal n) ≡ Some n }
     ensures unpadded { slice_index (decimal n) 0 ≡ 48 → length (decimal n) ≡ 1 }
 {
-    push_digits(n, out)
+    let mut digits = Buffer::new();
+    out.extend_from_slice(digits.format(n).as_bytes())
 }
