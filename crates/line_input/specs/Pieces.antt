@@ -6,7 +6,7 @@ use Rattle.line_input.specs.declared.input.Got.{Got}
 use Rattle.line_input.specs.declared.input.Got.TheVariants.{Line, Long, End}
 use Rattle.line_input.specs.declared.piece.Came.{Came}
 use Rattle.line_input.specs.declared.piece.Came.TheVariants.{Nothing, Short, Over}
-use Rattle.line_input.specs.declared.piece.Next.TheVariants.{More, Done}
+use Rattle.std.specs.declared.ops.ControlFlow.TheVariants.{Continue, Break}
 use Rattle.line_input.specs.declared.piece.Look.{Look}
 
 abbrev pub got_of : Bool → Got
@@ -45,8 +45,8 @@ has_break held = nat_lt (len_before 10 held) (length held)
 abbrev pub look_of : ℕ → Came → List ℕ → List ℕ → Look
 look_of limit came line held =
     cond (has_break held)
-    (record { spent = len_before 10 held + 1; next = Done (got_of (over_after limit came line (before_break held))) })
-    (record { spent = len_before 10 held; next = More (came_of (over_after limit came line (before_break held))) })
+    (record { spent = len_before 10 held + 1; next = Break (got_of (over_after limit came line (before_break held))) })
+    (record { spent = len_before 10 held; next = Continue (came_of (over_after limit came line (before_break held))) })
 
 abbrev pub line_after : ℕ → Came → List ℕ → List ℕ → List ℕ
 line_after limit came line held = kept_after limit came line (before_break held)

@@ -26,22 +26,19 @@ fn take_piece<B: BufRead>(input: &mut B, line: &mut Vec<u8>, came: Came) -> io::
 {
     let held = match input.fill_buf() {
         Ok(held) => held,
-        Err(e) => {
-            if e.kind() == ErrorKind::Interrupted {
-                return Ok(Next::More(came));
-            }
-            return Err(e);
-        }
+        Err(e) if e.kind() == ErrorKind::Interrupted => return Ok(Next::Continue(came)),
+        Err(e) => return Err(e),
     };
     if held.is_empty() {
-        return Ok(Next::Done(at_end(came)));
+        return Ok(Next::Break(at_end(came)));
     }
     let look = take_in(line, came, held)?;
     input.consume(look.spent);
     Ok(look.next)
 }
 
-// Takes in the reader's bytes up to a line feed or the end.
+// Takes in the reader's bytes up to a line feed or the end. The range counts nothing: a reader may give pieces without end,
+// and a loop needs a bound.
 fn fill_line<B: BufRead>(input: &mut B, line: &mut Vec<u8>) -> io::Result<Got>
     requires { whole 8192 line.old.items ≡ true }
     ensures { whole 8192 line.new.items ≡ true }
@@ -49,8 +46,8 @@ fn fill_line<B: BufRead>(input: &mut B, line: &mut Vec<u8>) -> io::Result<Got>
     let mut came = Came::Nothing;
     for _ in 0..u64::MAX {
         match take_piece(input, line, came)? {
-            Next::More(more) => came = more,
-            Next::Done(got) => return Ok(got),
+            Next::Continue(more) => came = more,
+            Next::Break(got) => return Ok(got),
         }
     }
     Err(Error::from(ErrorKind::TimedOut))

@@ -20,8 +20,7 @@ pub(crate) fn keep(line: &mut Vec<u8>, bytes: &[u8]) -> io::Result<bool>
 fn ends_in_return(line: &[u8]) -> bool
     ensures { result ≡ ends_in_return line.now }
 {
-    let len = line.len();
-    len > 0 && line[len - 1] == b'\r'
+    line.last() == Some(&b'\r')
 }
 
 // Drops a carriage return at the end.
@@ -29,6 +28,6 @@ pub(crate) fn drop_return(line: &mut Vec<u8>)
     ensures { line.new.items ≡ without_return line.old.items }
 {
     if ends_in_return(line.as_slice()) {
-        line.truncate(line.len() - 1);
+        line.pop();
     }
 }

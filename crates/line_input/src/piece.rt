@@ -5,6 +5,7 @@ ghost use Rattle.line_input.specs.Pieces.{got_of, got_at_end, came_of, over_afte
 use crate::input::Got;
 use crate::keeping::keep;
 use std::io;
+use std::ops::ControlFlow;
 use words::cut::len_before;
 
 // What has come of a line: nothing yet, bytes within the limit, or too many.
@@ -16,11 +17,7 @@ pub(crate) enum Came {
 }
 
 // The line goes on, or is done.
-#[derive(Clone, Copy)]
-pub(crate) enum Next {
-    More(Came),
-    Done(Got),
-}
+pub(crate) type Next = ControlFlow<Got, Came>;
 
 // How many bytes of a piece belong to the line and its line feed, and how it goes on after them.
 #[derive(Clone, Copy)]
@@ -71,13 +68,14 @@ pub(crate) fn take_in(line: &mut Vec<u8>, came: Came, held: &[u8]) -> io::Result
     let end = len_before(held, b'\n');
     let over = keep_more(line, came, &held[0..end])?;
     if end < held.len() {
-        return Ok(Look {
+        Ok(Look {
             spent: end + 1,
-            next: Next::Done(got_of(over)),
-        });
+            next: Next::Break(got_of(over)),
+        })
+    } else {
+        Ok(Look {
+            spent: end,
+            next: Next::Continue(came_of(over)),
+        })
     }
-    Ok(Look {
-        spent: end,
-        next: Next::More(came_of(over)),
-    })
 }
