@@ -17,7 +17,8 @@ pub enum LineFault {
 }
 
 impl LineFault {
-    // The words that tell it.
+    // The words that tell it, as an answer takes them. (A `Display` would be written by `write!`, whose error says less than
+    // that there was no memory.)
     pub fn text(self) -> &'static [u8]
         ensures { result.now ≡ fault_text self }
     {

@@ -16,36 +16,21 @@ use words::cut::is_word;
 pub fn read_number(word: &[u8], most: u64) -> Result<u64, LineFault>
     ensures { result ≡ number_argument most word.now }
 {
-    match number(word, most) {
-        Some(n) => Ok(n),
-        None => Err(LineFault::BadNumber),
-    }
+    number(word, most).ok_or(LineFault::BadNumber)
 }
 
 // What stands after `0x`, where the word begins with it.
 pub fn after_mark(word: &[u8]) -> Option<&[u8]>
     ensures { option_map (λ x. x.now) result ≡ after_mark word.now }
 {
-    if word.len() < 2 {
-        return None;
-    }
-    let (mark, digits) = word.split_at(2);
-    if is_word(mark, b"0x") {
-        Some(digits)
-    } else {
-        None
-    }
+    word.strip_prefix(b"0x")
 }
 
 fn read_digits(heap: Global, digits: &[u8]) -> Result<Vec<u8>, CallFault>
     ensures { Gives vec_items result (or_fault BadHex (hex_of digits.now)) }
 {
-    let mut bytes = Vec::new(heap);
-    if hex(digits, &mut bytes)? {
-        Ok(bytes)
-    } else {
-        Err(CallFault::Line(LineFault::BadHex))
-    }
+    let bytes = hex(heap, digits)?;
+    Ok(bytes.ok_or(LineFault::BadHex)?)
 }
 
 // Hex digits, with or without `0x`, or `-` for no bytes.
@@ -55,10 +40,7 @@ pub fn read_hex(heap: Global, word: &[u8]) -> Result<Vec<u8>, CallFault>
     if is_word(word, b"-") {
         return Ok(Vec::new(heap));
     }
-    match after_mark(word) {
-        Some(digits) => read_digits(heap, digits),
-        None => read_digits(heap, word),
-    }
+    read_digits(heap, after_mark(word).unwrap_or(word))
 }
 
 // The bytes as they stand, or `0x` and hex digits.
