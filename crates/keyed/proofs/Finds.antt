@@ -1,10 +1,8 @@
 -- One turn of a loop over keyed words.
-use Rattle.std.proofs.Common.{◌≡◌, ℕ, suc, ◌+◌, ◌<◌, Bool, cond, ◌&&◌, List, length, get_or, drop, Err, Result, sym, ap, ◌∙◌, Bor}
+use Rattle.std.proofs.Common.{◌≡◌, ℕ, ◌+◌, ◌<◌, List, length, get_or, drop, Err, Result, sym, ap, ◌∙◌, Bor}
 use Rattle.std.proofs.lemmas.List.{at_drop_more}
 use Rattle.words.specs.Cuts.{seen}
-use Rattle.keyed.specs.Keys.{value_under, has_key, count, or_else, find}
-use Rattle.keyed.specs.Shapes.{key_of, all_keys}
-use Rattle.envelope.specs.declared.parts.Kind.{Kind}
+use Rattle.keyed.specs.Keys.{value_under, or_else, find}
 use Rattle.envelope.specs.Results.{and_then}
 use Rattle.arguments.specs.Faults.{Gives}
 use Rattle.arguments.specs.declared.fault.LineFault.{LineFault}
@@ -15,14 +13,6 @@ use Rattle.keyed.specs.Fields.{checked_word, checked_words}
 module _ (name : List ℕ) (ws : List (Bor (List ℕ))) (i : ℕ) (d : Bor (List ℕ)) where
   pub find_more : i < length ws → find name (seen (drop i ws)) ≡ or_else (value_under name (get_or ws i d).now) (find name (seen (drop (i + 1) ws)))
   find_more h = at_drop_more (λ t. find name (seen t)) ws i d h
-
-  pub count_more : (has : Bool) → has ≡ has_key name (get_or ws i d).now → i < length ws → count name (seen (drop i ws)) ≡ cond has (suc (count name (seen (drop (i + 1) ws)))) (count name (seen (drop (i + 1) ws)))
-  count_more has e h = at_drop_more (λ t. count name (seen t)) ws i d h ∙ ap (λ b. cond b (suc (count name (seen (drop (i + 1) ws)))) (count name (seen (drop (i + 1) ws)))) (sym e)
-
--- a test of each word, in order
-module _ (kind : Kind) (ws : List (Bor (List ℕ))) (i : ℕ) (d : Bor (List ℕ)) where
-  pub keys_more : (ok : Bool) → ok ≡ key_of kind (get_or ws i d).now → i < length ws → all_keys kind (seen (drop i ws)) ≡ (ok && all_keys kind (seen (drop (i + 1) ws)))
-  keys_more ok e h = at_drop_more (λ t. all_keys kind (seen t)) ws i d h ∙ ap (λ b. b && all_keys kind (seen (drop (i + 1) ws))) (sym e)
 
 -- a check of each word, in order
 module _ (ws : List (Bor (List ℕ))) (i : ℕ) (d : Bor (List ℕ)) (here : i < length ws) where

@@ -1,5 +1,5 @@
 -- Words of the form `key=value`.
-use Rattle.std.specs.Prelude.{ℕ, suc, Bool, cond, List, [], ◌∷◌, is_some, Some, None, Option}
+use Rattle.std.specs.Prelude.{ℕ, Bool, cond, count_by, List, [], ◌∷◌, is_some, Some, None, Option}
 use Rattle.std.specs.Str.{bytes_eq}
 use Rattle.words.specs.Cuts.{key_value_of}
 
@@ -16,8 +16,7 @@ has_key name w = is_some (value_under name w)
 
 -- how many words have this key
 abbrev pub count : List ℕ → List (List ℕ) → ℕ
-count name [] = 0
-count name (w ∷ ws) = cond (has_key name w) (suc (count name ws)) (count name ws)
+count name ws = count_by (has_key name) ws
 
 abbrev pub or_else : {A : Type 0} → Option A → Option A → Option A
 or_else (Some x) other = Some x

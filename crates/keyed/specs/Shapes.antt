@@ -1,15 +1,20 @@
 -- Which keyed words may stand after `message` and `status`, and which must.
-use Rattle.std.specs.Prelude.{ℕ, Bool, true, ◌&&◌, ◌||◌, List, [], ◌∷◌, codes, ◌==◌, nat_le}
+use Rattle.std.specs.Prelude.{ℕ, Bool, ◌&&◌, ◌||◌, List, [], ◌∷◌, codes, ◌==◌, nat_le}
+use Rattle.std.specs.List.{list_all, list_any}
 use Rattle.envelope.specs.declared.parts.Kind.{Kind}
 use Rattle.envelope.specs.declared.parts.Kind.TheVariants.{Message, Status}
 use Rattle.keyed.specs.Keys.{has_key, count}
 
+-- one of these
+abbrev pub any_key : List (List ℕ) → List ℕ → Bool
+any_key names w = list_any (λ name. has_key name w) names
+
 -- numbers and texts that both kinds have
 abbrev pub number_key : List ℕ → Bool
-number_key w = has_key (codes "todt") w || (has_key (codes "to") w || (has_key (codes "ar") w || has_key (codes "vb") w))
+number_key w = any_key (codes "todt" ∷ codes "to" ∷ codes "ar" ∷ codes "vb" ∷ []) w
 
 abbrev pub text_key : List ℕ → Bool
-text_key w = has_key (codes "on") w || (has_key (codes "fr") w || (has_key (codes "ad") w || (has_key (codes "df") w || has_key (codes "ct") w)))
+text_key w = any_key (codes "on" ∷ codes "fr" ∷ codes "ad" ∷ codes "df" ∷ codes "ct" ∷ []) w
 
 -- what one kind has alone
 abbrev pub own_key : Kind → List ℕ → Bool
@@ -20,8 +25,7 @@ abbrev pub key_of : Kind → List ℕ → Bool
 key_of k w = number_key w || (text_key w || own_key k w)
 
 abbrev pub all_keys : Kind → List (List ℕ) → Bool
-all_keys k [] = true
-all_keys k (w ∷ ws) = key_of k w && all_keys k ws
+all_keys k ws = list_all (key_of k) ws
 
 abbrev pub once : List ℕ → List (List ℕ) → Bool
 once name ws = count name ws == 1
@@ -29,11 +33,17 @@ once name ws = count name ws == 1
 abbrev pub at_most_once : List ℕ → List (List ℕ) → Bool
 at_most_once name ws = nat_le (count name ws) 1
 
+abbrev pub all_once : List (List ℕ) → List (List ℕ) → Bool
+all_once names ws = list_all (λ name. once name ws) names
+
+abbrev pub all_at_most_once : List (List ℕ) → List (List ℕ) → Bool
+all_at_most_once names ws = list_all (λ name. at_most_once name ws) names
+
 abbrev pub required : List (List ℕ) → Bool
-required ws = once (codes "todt") ws && (once (codes "on") ws && (once (codes "fr") ws && (once (codes "ad") ws && once (codes "df") ws)))
+required ws = all_once (codes "todt" ∷ codes "on" ∷ codes "fr" ∷ codes "ad" ∷ codes "df" ∷ []) ws
 
 abbrev pub optional : List (List ℕ) → Bool
-optional ws = at_most_once (codes "to") ws && (at_most_once (codes "ar") ws && (at_most_once (codes "vb") ws && at_most_once (codes "ct") ws))
+optional ws = all_at_most_once (codes "to" ∷ codes "ar" ∷ codes "vb" ∷ codes "ct" ∷ []) ws
 
 abbrev pub own : Kind → List (List ℕ) → Bool
 own Message ws = at_most_once (codes "body") ws

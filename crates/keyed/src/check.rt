@@ -15,25 +15,21 @@ fn width_of(word: &[u8]) -> Option<u64>
     ensures { result ≡ width_of word.now }
 {
     if has_key(b"todt", word) {
-        return Some(4_294_967_295);
+        Some(u32::MAX.into())
+    } else if has_key(b"to", word) || has_key(b"code", word) {
+        Some(u16::MAX.into())
+    } else if has_key(b"ar", word) || has_key(b"vb", word) {
+        Some(u8::MAX.into())
+    } else {
+        None
     }
-    if has_key(b"to", word) || has_key(b"code", word) {
-        return Some(65_535);
-    }
-    if has_key(b"ar", word) || has_key(b"vb", word) {
-        return Some(255);
-    }
-    None
 }
 
 // What stands after the first `=`.
 fn value_of(word: &[u8]) -> &[u8]
     ensures { result.now ≡ value_of word.now }
 {
-    match key_value(word) {
-        Some((_, value)) => value,
-        None => &[],
-    }
+    key_value(word).map_or(&[], |(_, value)| value)
 }
 
 fn check_word(heap: Global, word: &[u8]) -> Result<(), CallFault>

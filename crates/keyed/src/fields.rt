@@ -15,7 +15,8 @@ use envelope::parts::Kind;
 use envelope_fields::fields::{Content, Fields};
 use std::alloc::Global;
 
-// The fields of a line, which owns their texts.
+// The fields of a line, which owns their texts. (One struct for these and `Fields`, generic in its texts, would put the
+// parameter into each contract of the layers that only lend.)
 #[derive(Drop)]
 pub struct FieldText {
     pub content: Content,
@@ -56,45 +57,22 @@ impl FieldText {
 fn number_or(name: &[u8], words: &[&[u8]], most: u64, default: u64) -> u64
     ensures { result ≡ number_for most default (find name.now (seen words.now)) }
 {
-    match find_value(name, words) {
-        Some(value) => match read_number(value, most) {
-            Ok(n) => n,
-            Err(_) => default,
-        },
-        None => default,
-    }
+    find_value(name, words)
+        .and_then(|value| read_number(value, most).ok())
+        .unwrap_or(default)
 }
 
 // The text under a key, empty where it is left out.
 fn text_or_none(heap: Global, name: &[u8], words: &[&[u8]]) -> Result<Vec<u8>, CallFault>
     ensures { Gives vec_items result (Ok (text_for (find name.now (seen words.now)))) }
 {
-    match find_value(name, words) {
-        Some(value) => match read_text(heap, value) {
-            Ok(text) => Ok(text),
-            Err(CallFault::Line(_)) => Ok(Vec::new(heap)),
-            Err(CallFault::Memory) => Err(CallFault::Memory),
-        },
-        None => Ok(Vec::new(heap)),
+    let Some(value) = find_value(name, words) else {
+        return Ok(Vec::new(heap));
+    };
+    match read_text(heap, value) {
+        Err(CallFault::Line(_)) => Ok(Vec::new(heap)),
+        read => read,
     }
-}
-
-fn u32_or(name: &[u8], words: &[&[u8]], default: u32) -> u32
-    ensures { result ≡ number_for 4294967295 default (find name.now (seen words.now)) }
-{
-    number_or(name, words, 4_294_967_295, u64::from(default)) as u32
-}
-
-fn u16_or(name: &[u8], words: &[&[u8]], default: u16) -> u16
-    ensures { result ≡ number_for 65535 default (find name.now (seen words.now)) }
-{
-    number_or(name, words, 65_535, u64::from(default)) as u16
-}
-
-fn u8_or(name: &[u8], words: &[&[u8]], default: u8) -> u8
-    ensures { result ≡ number_for 255 default (find name.now (seen words.now)) }
-{
-    number_or(name, words, 255, u64::from(default)) as u8
 }
 
 fn content_of(kind: Kind, words: &[&[u8]]) -> Content
@@ -103,7 +81,7 @@ fn content_of(kind: Kind, words: &[&[u8]]) -> Content
 {
     match kind {
         Kind::Message => Content::Message,
-        Kind::Status => Content::Status(u16_or(b"code", words, 0)),
+        Kind::Status => Content::Status(number_or(b"code", words, u16::MAX.into(), 0) as u16),
     }
 }
 
@@ -122,10 +100,10 @@ fn gather(heap: Global, kind: Kind, words: &[&[u8]]) -> Result<FieldText, CallFa
 {
     Ok(FieldText {
         content: content_of(kind, words),
-        todt: u32_or(b"todt", words, 0),
-        to: u16_or(b"to", words, 60),
-        ar: u8_or(b"ar", words, 0),
-        vb: u8_or(b"vb", words, 1),
+        todt: number_or(b"todt", words, u32::MAX.into(), 0) as u32,
+        to: number_or(b"to", words, u16::MAX.into(), 60) as u16,
+        ar: number_or(b"ar", words, u8::MAX.into(), 0) as u8,
+        vb: number_or(b"vb", words, u8::MAX.into(), 1) as u8,
         on: text_or_none(heap, b"on", words)?,
         fr: text_or_none(heap, b"fr", words)?,
         ad: text_or_none(heap, b"ad", words)?,

@@ -10,16 +10,8 @@ use words::cut::{is_word, key_value};
 fn value_under<'a>(name: &[u8], word: &'a [u8]) -> Option<&'a [u8]>
     ensures { option_map (λ x. x.now) result ≡ value_under name.now word.now }
 {
-    match key_value(word) {
-        Some((key, value)) => {
-            if is_word(key, name) {
-                Some(value)
-            } else {
-                None
-            }
-        }
-        None => None,
-    }
+    let (key, value) = key_value(word)?;
+    is_word(key, name).then_some(value)
 }
 
 pub(crate) fn has_key(name: &[u8], word: &[u8]) -> bool
@@ -32,16 +24,10 @@ pub(crate) fn has_key(name: &[u8], word: &[u8]) -> bool
 pub(crate) fn count_key(name: &[u8], words: &[&[u8]]) -> usize
     ensures { result ≡ count name.now (seen words.now) }
 {
-    let mut count = 0;
-    for word in words {
-        if has_key(name, word) {
-            count += 1;
-        }
-    }
-    count
+    words.iter().filter(|word| has_key(name, **word)).count()
 }
 
-// The value of the first word with this key.
+// The value of the first word with this key. (A `for`: the proof by `find_map` did not close.)
 pub(crate) fn find_value<'a>(name: &[u8], words: &[&'a [u8]]) -> Option<&'a [u8]>
     ensures { option_map (λ x. x.now) result ≡ find name.now (seen words.now) }
 {

@@ -1,25 +1,27 @@
 // Which keyed words may stand after `message` and `status`, and which must.
 ghost use Rattle.std.specs.Prelude.{◌≡◌};
 ghost use Rattle.words.specs.Cuts.{seen};
-ghost use Rattle.keyed.specs.Shapes.{number_key, text_key, own_key, key_of, all_keys, once, at_most_once, required, optional, own, is_shape};
+ghost use Rattle.keyed.specs.Shapes.{any_key, number_key, text_key, own_key, key_of, all_keys, once, at_most_once, all_once, all_at_most_once, required, optional, own, is_shape};
 
 use crate::keys::{count_key, has_key};
 use envelope::parts::Kind;
 
+fn has_any_key(names: &[&[u8]], word: &[u8]) -> bool
+    ensures { result ≡ any_key (seen names.now) word.now }
+{
+    names.iter().any(|name| has_key(*name, word))
+}
+
 fn is_number_key(word: &[u8]) -> bool
     ensures { result ≡ number_key word.now }
 {
-    has_key(b"todt", word) || has_key(b"to", word) || has_key(b"ar", word) || has_key(b"vb", word)
+    has_any_key(&[b"todt", b"to", b"ar", b"vb"], word)
 }
 
 fn is_text_key(word: &[u8]) -> bool
     ensures { result ≡ text_key word.now }
 {
-    has_key(b"on", word)
-        || has_key(b"fr", word)
-        || has_key(b"ad", word)
-        || has_key(b"df", word)
-        || has_key(b"ct", word)
+    has_any_key(&[b"on", b"fr", b"ad", b"df", b"ct"], word)
 }
 
 fn is_own_key(kind: Kind, word: &[u8]) -> bool
@@ -40,12 +42,7 @@ fn is_key_of(kind: Kind, word: &[u8]) -> bool
 fn are_keys_of(kind: Kind, words: &[&[u8]]) -> bool
     ensures { result ≡ all_keys kind (seen words.now) }
 {
-    for word in words {
-        if !is_key_of(kind, word) {
-            return false;
-        }
-    }
-    true
+    words.iter().all(|word| is_key_of(kind, *word))
 }
 
 fn is_once(name: &[u8], words: &[&[u8]]) -> bool
@@ -60,23 +57,28 @@ fn is_at_most_once(name: &[u8], words: &[&[u8]]) -> bool
     count_key(name, words) <= 1
 }
 
+fn are_once(names: &[&[u8]], words: &[&[u8]]) -> bool
+    ensures { result ≡ all_once (seen names.now) (seen words.now) }
+{
+    names.iter().all(|name| is_once(*name, words))
+}
+
+fn are_at_most_once(names: &[&[u8]], words: &[&[u8]]) -> bool
+    ensures { result ≡ all_at_most_once (seen names.now) (seen words.now) }
+{
+    names.iter().all(|name| is_at_most_once(*name, words))
+}
+
 fn has_required(words: &[&[u8]]) -> bool
     ensures { result ≡ required (seen words.now) }
 {
-    is_once(b"todt", words)
-        && is_once(b"on", words)
-        && is_once(b"fr", words)
-        && is_once(b"ad", words)
-        && is_once(b"df", words)
+    are_once(&[b"todt", b"on", b"fr", b"ad", b"df"], words)
 }
 
 fn has_optional(words: &[&[u8]]) -> bool
     ensures { result ≡ optional (seen words.now) }
 {
-    is_at_most_once(b"to", words)
-        && is_at_most_once(b"ar", words)
-        && is_at_most_once(b"vb", words)
-        && is_at_most_once(b"ct", words)
+    are_at_most_once(&[b"to", b"ar", b"vb", b"ct"], words)
 }
 
 fn has_own(kind: Kind, words: &[&[u8]]) -> bool

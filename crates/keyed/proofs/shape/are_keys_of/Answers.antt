@@ -1,15 +1,8 @@
-use Rattle.std.proofs.Common.{sym, ◌∙◌}
-use Rattle.std.proofs.lemmas.List.{at_drop_all}
-use Rattle.words.specs.Cuts.{seen}
-use Rattle.keyed.specs.Shapes.{all_keys}
-use Rattle.keyed.proofs.Finds.{keys_more}
+use Rattle.std.proofs.Common.{rules, tests}
+use Rattle.std.proofs.lemmas.Iterator.Search.{all_from_yields_List}
+use Rattle.keyed.specs.Shapes.{key_of}
+use Rattle.keyed.proofs.Seen.{seen_from_slice}
 use Rattle.keyed.proofs.shape.are_keys_of.Goals as goal
 
-pub returns-then-not-is_key_of : goal.returns-then-not-is_key_of
-returns-then-not-is_key_of c = sym (keys_more c.args.kind c.args.words.now c.loop-word.word-index _ _ c.if-not-is_key_of.ensures c.loop-word-test.true) ∙ c.loop-word.invariant
-
-pub loop-word-preserved : goal.loop-word-preserved
-loop-word-preserved c = sym (keys_more c.args.kind c.args.words.now c.loop-word.word-index _ _ c.if-not-is_key_of.ensures c.loop-word-test.true) ∙ c.loop-word.invariant
-
 pub returns : goal.returns
-returns c = sym (at_drop_all (λ t. all_keys c.args.kind (seen t)) c.args.words.now c.loop-word.word-index c.loop-word-test.false) ∙ c.loop-word.invariant
+returns c = all_from_yields_List (key_of c.args.kind) _ _ c.all.result c.all.ensures.ran (seen_from_slice c.args.words.now cc) (λ x b q k. search (rules, tests))
