@@ -36,15 +36,6 @@ fn way_of(word: &[u8]) -> Result<Way, LineFault>
     Ok(Way::Neighbour(number as u8))
 }
 
-fn lend(text: &Option<Vec<u8>>) -> Option<&[u8]>
-    ensures { lent result ≡ option_map vec_items text.now }
-{
-    match text {
-        Some(bytes) => Some(bytes.as_slice()),
-        None => None,
-    }
-}
-
 // The words from left to right, the first that is wrong; then a row that cannot be made.
 pub fn row_of(
     heap: Global,
@@ -57,8 +48,6 @@ pub fn row_of(
     let address = row_text(heap, address, 64)?;
     let dataflow = row_text(heap, dataflow, 256)?;
     let way = way_of(way)?;
-    match RouteRow::new(lend(&address), lend(&dataflow), way) {
-        Some(row) => Ok(row),
-        None => Err(CallFault::Line(LineFault::BadWord)),
-    }
+    let row = RouteRow::new(address.as_deref(), dataflow.as_deref(), way);
+    Ok(row.ok_or(LineFault::BadWord)?)
 }
