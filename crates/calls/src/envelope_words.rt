@@ -4,7 +4,6 @@ ghost use Rattle.arguments.specs.Faults.{Gives};
 ghost use Rattle.calls.specs.Calls.{asked, record_call, fields_call, envelope_call};
 
 use crate::call::Call;
-use crate::take::one_of;
 use arguments::fault::{CallFault, LineFault};
 use arguments::value::read_hex;
 use envelope::parts::Kind;
@@ -15,7 +14,9 @@ use words::cut::is_word;
 fn record_call(heap: Global, words: &[&[u8]]) -> Result<Call, CallFault>
     ensures { Gives asked result (record_call (seen words.now)) }
 {
-    let word = one_of(words)?;
+    let [word] = words else {
+        return Err(CallFault::Line(LineFault::WrongWords));
+    };
     let bytes = read_hex(heap, word)?;
     Ok(Call::ReadRecord(bytes))
 }
@@ -30,7 +31,7 @@ fn fields_call(heap: Global, kind: Kind, words: &[&[u8]]) -> Result<Call, CallFa
 pub(crate) fn envelope_call(heap: Global, words: &[&[u8]]) -> Result<Call, CallFault>
     ensures { Gives asked result (envelope_call (seen words.now)) }
 {
-    let Some((kind, rest)) = words.split_first() else {
+    let [kind, rest @ ..] = words else {
         return Err(CallFault::Line(LineFault::WrongWords));
     };
     if is_word(kind, b"record") {

@@ -7,4 +7,3 @@ mod envelope_words;
 mod question;
 pub mod reading;
 mod route_table;
-mod take;

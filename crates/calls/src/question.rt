@@ -4,15 +4,16 @@ ghost use Rattle.arguments.specs.Faults.{Gives};
 ghost use Rattle.calls.specs.Calls.{asked, way_call, reason_call};
 
 use crate::call::Call;
-use crate::take::two_of;
-use arguments::fault::CallFault;
+use arguments::fault::{CallFault, LineFault};
 use arguments::value::{read_hex, read_text};
 use std::alloc::Global;
 
 pub(crate) fn way_call(heap: Global, words: &[&[u8]]) -> Result<Call, CallFault>
     ensures { Gives asked result (way_call (seen words.now)) }
 {
-    let (target, dataflow) = two_of(words)?;
+    let [target, dataflow] = words else {
+        return Err(CallFault::Line(LineFault::WrongWords));
+    };
     let target = read_text(heap, target)?;
     let dataflow = read_text(heap, dataflow)?;
     Ok(Call::AskWay(target, dataflow))
@@ -21,7 +22,9 @@ pub(crate) fn way_call(heap: Global, words: &[&[u8]]) -> Result<Call, CallFault>
 pub(crate) fn reason_call(heap: Global, words: &[&[u8]]) -> Result<Call, CallFault>
     ensures { Gives asked result (reason_call (seen words.now)) }
 {
-    let (record, sheet) = two_of(words)?;
+    let [record, sheet] = words else {
+        return Err(CallFault::Line(LineFault::WrongWords));
+    };
     let record = read_hex(heap, record)?;
     let sheet = read_hex(heap, sheet)?;
     Ok(Call::AskReason(record, sheet))

@@ -12,6 +12,7 @@ use arguments::fault::{CallFault, LineFault};
 use std::alloc::Global;
 use words::cut::{is_word, words};
 
+// One word after the other: of a `match` on the bytes the last arm's proof did not close.
 fn verb_call(heap: Global, verb: &[u8], args: &[&[u8]]) -> Result<Call, CallFault>
     ensures { Gives asked result (verb_call verb.now (seen args.now)) }
 {
@@ -33,13 +34,11 @@ fn verb_call(heap: Global, verb: &[u8], args: &[&[u8]]) -> Result<Call, CallFaul
 fn words_call(heap: Global, words: &[&[u8]]) -> Result<Option<Call>, CallFault>
     ensures { Gives (option_map asked) result (call_of (seen words.now)) }
 {
-    match words.split_first() {
-        Some((verb, args)) => {
-            let call = verb_call(heap, verb, args)?;
-            Ok(Some(call))
-        }
-        None => Ok(None),
-    }
+    let [verb, args @ ..] = words else {
+        return Ok(None);
+    };
+    let call = verb_call(heap, verb, args)?;
+    Ok(Some(call))
 }
 
 // The call that a line makes; none where it has no words.

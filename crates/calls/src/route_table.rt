@@ -4,7 +4,6 @@ ghost use Rattle.arguments.specs.Faults.{Gives};
 ghost use Rattle.calls.specs.Calls.{asked, route_call, forget_call};
 
 use crate::call::Call;
-use crate::take::{one_of, three_of};
 use arguments::fault::{CallFault, LineFault};
 use route_words::row::row_of;
 use std::alloc::Global;
@@ -13,7 +12,9 @@ use words::cut::is_word;
 pub(crate) fn route_call(heap: Global, words: &[&[u8]]) -> Result<Call, CallFault>
     ensures { Gives asked result (route_call (seen words.now)) }
 {
-    let (address, dataflow, way) = three_of(words)?;
+    let [address, dataflow, way] = words else {
+        return Err(CallFault::Line(LineFault::WrongWords));
+    };
     let row = row_of(heap, address, dataflow, way)?;
     Ok(Call::AddRoute(row))
 }
@@ -21,7 +22,9 @@ pub(crate) fn route_call(heap: Global, words: &[&[u8]]) -> Result<Call, CallFaul
 pub(crate) fn forget_call(words: &[&[u8]]) -> Result<Call, CallFault>
     ensures { Gives asked result (forget_call (seen words.now)) }
 {
-    let table = one_of(words)?;
+    let [table] = words else {
+        return Err(CallFault::Line(LineFault::WrongWords));
+    };
     if is_word(table, b"routes") {
         Ok(Call::ForgetRoutes)
     } else {
