@@ -1,5 +1,6 @@
 -- How a text stands in an answer.
-use Rattle.std.specs.Prelude.{ℕ, Bool, true, cond, not, ◌&&◌, List, [], ◌∷◌, length, is_some, codes, decimal, ◌==◌, nat_le}
+use Rattle.std.specs.Prelude.{ℕ, Bool, cond, not, ◌&&◌, List, [], ◌∷◌, length, is_some, codes, decimal, ◌==◌, nat_le}
+use Rattle.std.specs.List.{list_all}
 use Rattle.arguments.specs.Values.{after_mark}
 use Rattle.digits.specs.Hexes.{hex_text}
 
@@ -8,8 +9,7 @@ abbrev pub plain_byte : ℕ → Bool
 plain_byte b = nat_le 33 b && (nat_le b 126 && not (b == 35))
 
 abbrev pub plain_bytes : List ℕ → Bool
-plain_bytes [] = true
-plain_bytes (b ∷ bs) = plain_byte b && plain_bytes bs
+plain_bytes bs = list_all plain_byte bs
 
 -- not empty, not to be taken for hex digits, and each byte plain
 abbrev pub is_plain : List ℕ → Bool

@@ -25,12 +25,7 @@ fn is_plain_byte(b: u8) -> bool
 fn are_plain_bytes(bytes: &[u8]) -> bool
     ensures { result ≡ plain_bytes bytes.now }
 {
-    for b in bytes {
-        if !is_plain_byte(*b) {
-            return false;
-        }
-    }
-    true
+    bytes.iter().all(|b| is_plain_byte(*b))
 }
 
 fn is_plain(bytes: &[u8]) -> bool
