@@ -2,16 +2,20 @@
 use Rattle.std.specs.Prelude.{◌≡◌, ℕ, List, [], ◌∷◌, ◌++◌, length, Some, None, codes, decimal, Option}
 use Rattle.digits.specs.Hexes.{hex_text}
 use Rattle.text.specs.Said.{Said}
-use Rattle.envelope.specs.Views.{Seen, Whole}
+use Rattle.envelope.specs.Views.{Seen, Whole, held}
 use Rattle.routing.specs.declared.row.Way.{Way}
 use Rattle.routing.specs.declared.row.Way.TheVariants.{Local, Neighbour}
 use Rattle.reason.specs.Reasons.{ToldReason, of_record, of_sheet}
+use Rattle.reason.specs.Reasons as reasons
+use Rattle.refusals.specs.Refusals.{said_refusal}
 use Rattle.arguments.specs.Faults.{fault_text}
 use Rattle.arguments.specs.declared.fault.LineFault.{LineFault}
 use Rattle.answer_pieces.specs.Pieces.{grouped, joined_groups}
 use Rattle.answer_pieces.specs.Texts.{keyed_number, text_pieces}
 use Rattle.answer_pieces.specs.Lines.{line_onto}
 use Rattle.envelope_line.specs.EnvelopeLines.{told_groups}
+use Rattle.answers.specs.declared.answer.Answer.{Answer}
+use Rattle.answers.specs.declared.answer.Answer.TheVariants as answer
 use Rattle.answers.specs.declared.answer.Verb.{Verb}
 use Rattle.answers.specs.declared.answer.Verb.TheVariants as verb
 use Rattle.answers.specs.declared.counts.Counts.{Counts}
@@ -24,6 +28,14 @@ pub data ToldAnswer : Type 0 where
   explained : ToldReason → ToldAnswer
   refused : Verb → Said → ToldAnswer
   error : LineFault → ToldAnswer
+
+abbrev pub told_answer : Answer → ToldAnswer
+told_answer (answer.Record bytes) = written bytes.now
+told_answer (answer.Envelope envelope) = told (held envelope)
+told_answer (answer.Way way) = chosen way
+told_answer (answer.Reason reason) = explained (reasons.told reason)
+told_answer (answer.Refusal verb refusal) = refused verb (said_refusal refusal)
+told_answer (answer.Error fault) = error fault
 
 abbrev pub verb_text : Verb → List ℕ
 verb_text verb.Envelope = codes "envelope"

@@ -1,25 +1,26 @@
 // The whole line that tells an answer, and the last line of a run.
 ghost use Rattle.std.specs.Prelude.{◌≡◌, OnOk};
 ghost use Rattle.reason.specs.Reasons as reasons;
-ghost use Rattle.envelope.specs.Views.{held, seen};
-ghost use Rattle.answer_pieces.specs.Pieces.{appended};
+ghost use Rattle.envelope.specs.Views.{seen};
+ghost use Rattle.answer_pieces.specs.Pieces.{appended, grouped};
 ghost use Rattle.refusals.specs.Refusals.{fault_values, said_refusal};
-ghost use Rattle.answers.specs.Answers.{written, told, chosen, explained, refused, error, verb_text, written_pieces, chosen_pieces, way_pieces, placed_text, field_pieces, reason_pieces, value_pieces, refused_pieces, error_pieces, answer_onto, end_onto, LinesStandBehind};
+ghost use Rattle.answers.specs.Answers.{told_answer, answer_groups, verb_text, written_pieces, chosen_pieces, way_pieces, placed_text, field_pieces, reason_pieces, value_pieces, refused_pieces, error_pieces, answer_onto, end_onto, LinesStandBehind};
 
-use crate::answer::Verb;
+use crate::answer::{Answer, Verb};
 use crate::counts::Counts;
 use answer_pieces::ends::{begin_line, end_line};
 use answer_pieces::pieces::{put, put_keyed_number, put_text};
 use arguments::fault::LineFault;
 use digits::hex::write_hex;
 use envelope::fault::FieldFault;
-use envelope::parts::{Envelope, Part};
-use envelope_line::line;
+use envelope::parts::Part;
+use envelope_line::line::put_envelope;
 use reason::answer::Reason;
 use refusals::refusal::Refusal;
 use routing::row::Way;
 use std::alloc::AllocError;
 
+// The word that tells it; bytes and no `Display`, as with a `LineFault`.
 fn verb_text(verb: Verb) -> &'static [u8]
     ensures { result.now ≡ verb_text verb }
 {
@@ -94,8 +95,8 @@ fn put_refused(out: &mut Vec<u8>, verb: Verb, refusal: Refusal) -> Result<(), Al
     ensures { OnOk result (out.new.items ≡ appended out.old.items (refused_pieces verb (said_refusal refusal))) }
 {
     put(out, verb_text(verb))?;
-    put_keyed_number(out, b" refused ", u64::from(refusal.number))?;
-    put_at(out, refusal.at)
+    put_keyed_number(out, b" refused ", u64::from(refusal.number()))?;
+    put_at(out, refusal.at())
 }
 
 fn put_error(out: &mut Vec<u8>, fault: LineFault) -> Result<(), AllocError>
@@ -105,68 +106,25 @@ fn put_error(out: &mut Vec<u8>, fault: LineFault) -> Result<(), AllocError>
     put(out, fault.text())
 }
 
-// Adds the answer to line `number`: the record that fields were written as.
-pub fn write_record(number: u64, bytes: &[u8], out: &mut Vec<u8>) -> Result<(), AllocError>
-    ensures { OnOk result (out.new.items ≡ answer_onto out.old.items number (written bytes.now)) }
+fn put_answer(out: &mut Vec<u8>, answer: Answer<'_>) -> Result<(), AllocError>
+    ensures { OnOk result (out.new.items ≡ grouped out.old.items (answer_groups (told_answer answer.entry))) }
 {
-    begin_line(out, number)?;
-    put_written(out, bytes)?;
-    end_line(out)
+    match answer {
+        Answer::Record(bytes) => put_written(out, bytes),
+        Answer::Envelope(envelope) => put_envelope(out, envelope),
+        Answer::Way(way) => put_way(out, way),
+        Answer::Reason(reason) => put_reason(out, reason),
+        Answer::Refusal(verb, refusal) => put_refused(out, verb, refusal),
+        Answer::Error(fault) => put_error(out, fault),
+    }
 }
 
-// Adds the answer to line `number`: an envelope field by field.
-pub fn write_envelope(
-    number: u64,
-    envelope: Envelope<'_>,
-    out: &mut Vec<u8>,
-) -> Result<(), AllocError>
-    ensures { OnOk result (out.new.items ≡ answer_onto out.old.items number (told (held envelope.entry))) }
-{
-    line::write_envelope(number, envelope, out)
-}
-
-// Adds the answer to line `number`: a way, or that there is none.
-pub fn write_way(number: u64, way: Option<Way>, out: &mut Vec<u8>) -> Result<(), AllocError>
-    ensures { OnOk result (out.new.items ≡ answer_onto out.old.items number (chosen way)) }
+// Adds the answer to line `number`.
+pub fn write_answer(number: u64, answer: Answer<'_>, out: &mut Vec<u8>) -> Result<(), AllocError>
+    ensures { OnOk result (out.new.items ≡ answer_onto out.old.items number (told_answer answer.entry)) }
 {
     begin_line(out, number)?;
-    put_way(out, way)?;
-    end_line(out)
-}
-
-// Adds the answer to line `number`: a reason with its place.
-pub fn write_reason(
-    number: u64,
-    reason: Reason<'_, '_>,
-    out: &mut Vec<u8>,
-) -> Result<(), AllocError>
-    ensures { OnOk result (out.new.items ≡ answer_onto out.old.items number (explained (reasons.told reason.entry))) }
-{
-    begin_line(out, number)?;
-    put_reason(out, reason)?;
-    end_line(out)
-}
-
-// Adds the answer to line `number`: a refusal.
-pub fn write_refusal(
-    number: u64,
-    verb: Verb,
-    refusal: Refusal,
-    out: &mut Vec<u8>,
-) -> Result<(), AllocError>
-    ensures { OnOk result (out.new.items ≡ answer_onto out.old.items number (refused verb (said_refusal refusal))) }
-{
-    begin_line(out, number)?;
-    put_refused(out, verb, refusal)?;
-    end_line(out)
-}
-
-// Adds the answer to line `number`: that it is no call.
-pub fn write_error(number: u64, fault: LineFault, out: &mut Vec<u8>) -> Result<(), AllocError>
-    ensures { OnOk result (out.new.items ≡ answer_onto out.old.items number (error fault)) }
-{
-    begin_line(out, number)?;
-    put_error(out, fault)?;
+    put_answer(out, answer)?;
     end_line(out)
 }
 

@@ -1,12 +1,10 @@
-// An envelope told field by field.
+// The pieces that tell an envelope.
 ghost use Rattle.std.specs.Prelude.{◌≡◌, OnOk};
 ghost use Rattle.envelope.specs.Views.{held, view};
 ghost use Rattle.answer_pieces.specs.Pieces.{appended, grouped};
 ghost use Rattle.answer_pieces.specs.Texts.{keyed_text};
-ghost use Rattle.answer_pieces.specs.Lines.{line_onto};
 ghost use Rattle.envelope_line.specs.EnvelopeLines.{number_groups, text_groups, message_groups, status_groups, told_groups};
 
-use answer_pieces::ends::{begin_line, end_line};
 use answer_pieces::pieces::{put, put_keyed_number, put_text};
 use envelope::parts::{Envelope, Parts};
 use std::alloc::AllocError;
@@ -57,24 +55,12 @@ fn put_status(out: &mut Vec<u8>, code: u16, parts: Parts<'_>) -> Result<(), Allo
     put_keyed_text(out, b" text=", parts.rest.bytes)
 }
 
-fn put_envelope(out: &mut Vec<u8>, envelope: Envelope<'_>) -> Result<(), AllocError>
+// An envelope, field by field.
+pub fn put_envelope(out: &mut Vec<u8>, envelope: Envelope<'_>) -> Result<(), AllocError>
     ensures { OnOk result (out.new.items ≡ grouped out.old.items (told_groups (held envelope.entry))) }
 {
     match envelope {
         Envelope::Message(parts) => put_message(out, parts),
         Envelope::Status(code, parts) => put_status(out, code, parts),
     }
-}
-
-// Adds the answer to line `number`: an envelope field by field.
-pub fn write_envelope(
-    number: u64,
-    envelope: Envelope<'_>,
-    out: &mut Vec<u8>,
-) -> Result<(), AllocError>
-    ensures { OnOk result (out.new.items ≡ line_onto out.old.items number (told_groups (held envelope.entry))) }
-{
-    begin_line(out, number)?;
-    put_envelope(out, envelope)?;
-    end_line(out)
 }

@@ -2,5 +2,6 @@
 
 #![tactic(auto)]
 
+mod reply;
 pub mod service;
 mod tell;

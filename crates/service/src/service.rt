@@ -6,7 +6,9 @@ ghost use Rattle.arguments.specs.declared.fault.LineFault.TheVariants.{TooLong};
 ghost use Rattle.service.specs.Replies.{reply, rows_after, line_reply, line_rows, route_reply, rows_with};
 ghost use Rattle.service.specs.Runs.{Tells, outcome, counted, kept, started, kept_after, written_after, kept_after_long, written_after_long};
 
-use crate::tell::{Outcome, tell_error, tell_fields, tell_reason, tell_record, tell_way};
+use crate::reply::{ROOM, read_reply, reason_reply, way_reply, write_reply};
+use crate::tell::{Outcome, tell};
+use answers::answer::Answer;
 use answers::counts::Counts;
 use answers::line::write_end;
 use arguments::fault::{CallFault, LineFault};
@@ -36,7 +38,7 @@ fn add_route(
     ensures rows { OnOk result (rows.new.items ≡ rows_with row rows.old.items) }
 {
     if rows.len() >= MOST_ROUTES {
-        return tell_error(number, LineFault::TableFull, out);
+        return tell(number, Answer::Error(LineFault::TableFull), out);
     }
     rows.push(row)?;
     Ok(Outcome::Silent)
@@ -53,24 +55,24 @@ fn perform(
     ensures rows { OnOk result (rows.new.items ≡ rows_after rows.old.items (asked call.now)) }
 {
     match call {
-        Call::ReadRecord(bytes) => tell_record(number, bytes.as_slice(), out),
-        Call::WriteFields(fields) => tell_fields(number, fields, out),
+        Call::ReadRecord(bytes) => tell(number, read_reply(bytes.as_slice()), out),
+        Call::WriteFields(fields) => {
+            let mut room = [0; ROOM];
+            tell(number, write_reply(fields, &mut room), out)
+        }
         Call::AddRoute(row) => add_route(number, rows, *row, out),
         Call::ForgetRoutes => {
             rows.clear();
             Ok(Outcome::Silent)
         }
-        Call::AskWay(target, dataflow) => tell_way(
+        Call::AskWay(target, dataflow) => tell(
             number,
-            rows.as_slice(),
-            target.as_slice(),
-            dataflow.as_slice(),
+            way_reply(rows.as_slice(), target.as_slice(), dataflow.as_slice()),
             out,
         ),
-        Call::AskReason(record, sheet) => tell_reason(
+        Call::AskReason(record, sheet) => tell(
             number,
-            record.as_slice(),
-            sheet.as_slice(),
+            reason_reply(record.as_slice(), sheet.as_slice()),
             out,
         ),
     }
@@ -82,8 +84,7 @@ fn count(counts: Counts, how: Outcome) -> Counts
 {
     let lines = counts.lines.saturating_add(1);
     match how {
-        Outcome::Silent => Counts { lines, ..counts },
-        Outcome::Answered => Counts { lines, ..counts },
+        Outcome::Silent | Outcome::Answered => Counts { lines, ..counts },
         Outcome::Refused => Counts {
             lines,
             refused: counts.refused.saturating_add(1),
@@ -125,7 +126,7 @@ impl Service {
         match read_call(self.heap, line) {
             Ok(Some(call)) => perform(number, &mut self.routes, &call, out),
             Ok(None) => Ok(Outcome::Silent),
-            Err(CallFault::Line(fault)) => tell_error(number, fault, out),
+            Err(CallFault::Line(fault)) => tell(number, Answer::Error(fault), out),
             Err(CallFault::Memory) => Err(AllocError),
         }
     }
@@ -146,7 +147,7 @@ impl Service {
         ensures kept { OnOk result (kept self.new ≡ kept_after_long (kept self.old)) }
     {
         let number = self.counts.lines.saturating_add(1);
-        let how = tell_error(number, LineFault::TooLong, out)?;
+        let how = tell(number, Answer::Error(LineFault::TooLong), out)?;
         self.counts = count(self.counts, how);
         Ok(())
     }
