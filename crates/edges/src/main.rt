@@ -69,19 +69,9 @@ fn play_record(rt: &HostRuntime, fields: Fields<'_>, room: &mut [u8]) -> io::Res
 
 // The example's fields, with a body.
 fn request_with(body: &[u8]) -> Fields<'_> {
-    let request = berth_request();
     Fields {
-        content: request.content,
-        todt: request.todt,
-        to: request.to,
-        ar: request.ar,
-        vb: request.vb,
-        on: request.on,
-        fr: request.fr,
-        ad: request.ad,
-        df: request.df,
-        ct: request.ct,
         rest: body,
+        ..berth_request()
     }
 }
 
