@@ -1,6 +1,7 @@
 -- An address by its bytes and by its names.
 use Rattle.std.proofs.Common.{◌≡◌, ℕ, suc, ◌≤◌, Bool, true, false, cond, ◌&&◌, ◌||◌, eqb, leb, List, [], ◌∷◌, ◌++◌, length, take, sym, refl, ap, ◌∙◌, subst, arith, length-append}
 use Rattle.std.proofs.lemmas.Bool.{eqb-true, ne_eqb, leb-true, le-leb, and_parts, and_from, true≢false}
+use Rattle.std.proofs.lemmas.List.Splits.{join_with_byte-slice_split}
 use Rattle.text.proofs.Named.{names_head}
 use Rattle.text.specs.Forms.{all, name_byte, names_from, is_address}
 use Rattle.text.specs.Names.{names, onto, is_name, all_names, name_len, joined, Named, ExactlyNames}
@@ -45,24 +46,8 @@ by_names g (b ∷ bs) =
 left_all : (bs : List ℕ) → left false (names bs) ≡ all_names (names bs)
 left_all bs = let p = names_head bs in ap (left false) p.1 ∙ assoc (leb 1 (length (take (name_len bs) bs))) (all name_byte (take (name_len bs) bs)) (all_names p.0) ∙ ap all_names (sym p.1)
 
-by_parts : (bs : List ℕ) → names_from false bs ≡ all_names (names bs)
+pub by_parts : (bs : List ℕ) → names_from false bs ≡ all_names (names bs)
 by_parts bs = by_names false bs ∙ left_all bs
-
--- cutting and joining undo each other
-onto_joined : (b : ℕ) (n : List ℕ) (ns : List (List ℕ)) → joined (onto b (n ∷ ns)) ≡ b ∷ joined (n ∷ ns)
-onto_joined b n [] = refl
-onto_joined b n (m ∷ ns) = refl
-
-join_step : (q : Bool) (b : ℕ) (bs n : List ℕ) (ns : List (List ℕ)) → eqb b 58 ≡ q → joined (n ∷ ns) ≡ bs → joined (cond q ([] ∷ (n ∷ ns)) (onto b (n ∷ ns))) ≡ b ∷ bs
-join_step true b bs n ns e h = λ i. sym (eqb-true b 58 e) i ∷ h i
-join_step false b bs n ns e h = onto_joined b n ns ∙ ap (λ t. b ∷ t) h
-
-joined_names : (bs : List ℕ) → joined (names bs) ≡ bs
-joined_names [] = refl
-joined_names (b ∷ bs) =
-    let p = names_head bs in
-    ap (λ t. joined (cond (eqb b 58) ([] ∷ t) (onto b t))) p.1
-    ∙ join_step (eqb b 58) b bs _ p.0 refl (sym (ap joined p.1) ∙ joined_names bs)
 
 no_colon : (b : ℕ) → name_byte b ≡ true → eqb b 58 ≡ false
 no_colon b h = ne_eqb b 58 (λ e. true≢false (sym h ∙ ap name_byte e))
@@ -105,7 +90,7 @@ exactly_names bs = record { only = only; every = every }
           parts = names bs;
           some = let p = names_head bs in subst (λ t. 1 ≤ length t) (sym p.1) (omega arith);
           lawful = sym (by_parts bs) ∙ rest.1;
-          spelled = joined_names bs;
+          spelled = join_with_byte-slice_split 58 bs;
           short = leb-true (length bs) 64 rest.0;
         }
 

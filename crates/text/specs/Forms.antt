@@ -1,12 +1,12 @@
 -- Letter case, and the forms of the texts in an envelope. A text is a list of bytes.
 use Rattle.std.specs.Prelude.{ℕ, Bool, true, false, cond, ◌&&◌, ◌||◌, List, [], ◌∷◌, map, length, take, codes, ◌==◌, nat_le}
+use Rattle.std.specs.List.{list_all}
 use Rattle.std.specs.Char.{is_ascii_alphanumeric, to_ascii_lowercase}
 use Rattle.std.specs.Str.{bytes_eq}
 
 -- each byte passes the test
 abbrev pub all : (ℕ → Bool) → List ℕ → Bool
-all p [] = true
-all p (b ∷ bs) = p b && all p bs
+all p bs = list_all p bs
 
 -- each byte is from lo to hi
 abbrev pub bytes_from : ℕ → ℕ → List ℕ → Bool

@@ -1,15 +1,14 @@
 -- The names of an address: what stands between its colons.
-use Rattle.std.specs.Prelude.{◌≡◌, ℕ, suc, ◌≤◌, Bool, true, false, cond, ◌&&◌, List, [], ◌∷◌, ◌++◌, length, ◌==◌, nat_le}
+use Rattle.std.specs.Prelude.{◌≡◌, ℕ, suc, ◌≤◌, Bool, true, false, cond, ◌&&◌, List, [], ◌∷◌, length, ◌==◌, nat_le}
+use Rattle.std.specs.List.{list_all, slice_split, onto_first, join_with_byte}
 use Rattle.text.specs.Forms.{all, same_text, name_byte, is_address}
 
 -- b in front of the first name
 abbrev pub onto : ℕ → List (List ℕ) → List (List ℕ)
-onto b [] = (b ∷ []) ∷ []
-onto b (n ∷ ns) = (b ∷ n) ∷ ns
+onto b ns = onto_first b ns
 
 abbrev pub names : List ℕ → List (List ℕ)
-names [] = [] ∷ []
-names (b ∷ bs) = cond (b == 58) ([] ∷ names bs) (onto b (names bs))
+names bs = slice_split (λ b. b == 58) bs
 
 -- the length of the first name
 abbrev pub name_len : List ℕ → ℕ
@@ -27,14 +26,11 @@ abbrev pub is_name : List ℕ → Bool
 is_name n = nat_le 1 (length n) && all name_byte n
 
 abbrev pub all_names : List (List ℕ) → Bool
-all_names [] = true
-all_names (n ∷ ns) = is_name n && all_names ns
+all_names ns = list_all is_name ns
 
 -- names with a colon between each two
 abbrev pub joined : List (List ℕ) → List ℕ
-joined [] = []
-joined (n ∷ []) = n
-joined (n ∷ (m ∷ ns)) = n ++ (58 ∷ joined (m ∷ ns))
+joined ns = join_with_byte 58 ns
 
 -- a text that is one or more lawful names joined by single colons, 64 bytes or fewer in all
 pub record Named (bs : List ℕ) : Type 0 where

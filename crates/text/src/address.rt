@@ -4,7 +4,7 @@ ghost use Rattle.text.specs.Forms.{is_address};
 
 mod filling;
 
-// Its bytes, zeros after them, and how many they are.
+// Its bytes, zeros after them, and how many they are: an array and a length, since nothing here allocates.
 #[derive(Clone, Copy)]
 pub struct Address {
     bytes: [u8; 64],

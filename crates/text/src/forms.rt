@@ -1,7 +1,7 @@
 // The forms of the texts in an envelope, each as a test of its bytes.
-ghost use Rattle.std.specs.Prelude.{◌≡◌, false};
-ghost use Rattle.text.specs.Forms.{all, bytes_from, name_byte, names_from, is_address, has_scheme, is_dataflow, is_operation_number, is_contacts};
-ghost use Rattle.text.specs.Names.{ExactlyNames};
+ghost use Rattle.std.specs.Prelude.{◌≡◌};
+ghost use Rattle.text.specs.Forms.{all, bytes_from, name_byte, is_address, has_scheme, is_dataflow, is_operation_number, is_contacts};
+ghost use Rattle.text.specs.Names.{names, is_name, all_names, ExactlyNames};
 ghost use Rattle.std.specs.Char.{is_ascii_alphanumeric};
 
 use crate::case::begins_with;
@@ -13,27 +13,17 @@ fn is_name_byte(b: u8) -> bool
     b.is_ascii_alphanumeric() || b == b'-' || b == b'_'
 }
 
-// Names joined by single colons.
-fn has_names(s: &[u8]) -> bool
-    ensures { result ≡ names_from false s.now }
+fn is_name(s: &[u8]) -> bool
+    ensures { result ≡ is_name s.now }
 {
-    let mut begun = false;
-    for b in s {
-        if is_name_byte(*b) {
-            begun = true;
-        } else if *b == b':' && begun {
-            begun = false;
-        } else {
-            return false;
-        }
-    }
-    begun
+    1 <= s.len() && s.iter().all(|b| is_name_byte(*b))
 }
 
-fn has_address_form(s: &[u8]) -> bool
-    ensures { result ≡ is_address s.now }
+// Names joined by single colons.
+fn has_names(s: &[u8]) -> bool
+    ensures { result ≡ all_names (names s.now) }
 {
-    1 <= s.len() && s.len() <= 64 && has_names(s)
+    s.split(|b| *b == b':').all(|name| is_name(name))
 }
 
 // 1 to 64 bytes: names joined by single colons.
@@ -41,30 +31,20 @@ pub fn is_address(s: &[u8]) -> bool
     ensures value { result ≡ is_address s.now }
     ensures names { ExactlyNames s.now }
 {
-    has_address_form(s)
+    1 <= s.len() && s.len() <= 64 && has_names(s)
 }
 
 // Each byte is from `low` to `high`.
 fn is_within(s: &[u8], low: u8, high: u8) -> bool
     ensures { result ≡ bytes_from low high s.now }
 {
-    for b in s {
-        if *b < low || *b > high {
-            return false;
-        }
-    }
-    true
+    s.iter().all(|b| low <= *b && *b <= high)
 }
 
 fn is_alphanumeric(s: &[u8]) -> bool
     ensures { result ≡ all is_ascii_alphanumeric s.now }
 {
-    for b in s {
-        if !b.is_ascii_alphanumeric() {
-            return false;
-        }
-    }
-    true
+    s.iter().all(|b| b.is_ascii_alphanumeric())
 }
 
 fn has_scheme(s: &[u8]) -> bool
