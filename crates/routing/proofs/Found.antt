@@ -1,11 +1,10 @@
 -- What the search through a table finds.
-use Rattle.std.proofs.Common.{◌≡◌, ℕ, zero, suc, ◌+◌, ◌<◌, ◌≤◌, Bool, true, false, cond, List, [], ◌∷◌, length, IfSome, Some, None, Option, sym, refl, ◌∙◌, subst, ⊎_elim, arith}
+use Rattle.std.proofs.Common.{◌≡◌, ℕ, zero, suc, ◌+◌, ◌<◌, ◌≤◌, Bool, true, false, cond, List, [], ◌∷◌, length, Some, None, Option, sym, refl, ◌∙◌, subst, ⊎_elim, arith}
 use Rattle.std.proofs.lemmas.Bool.Decides.{leb_tells}
 use Rattle.std.proofs.lemmas.Bool.{true≢false, cases_lt}
 use Rattle.routing.specs.declared.row.RouteRow.{RouteRow}
-use Rattle.routing.specs.declared.choice.Candidate.{Candidate}
 use Rattle.routing.specs.Rows.{fits, rank_of}
-use Rattle.routing.specs.Choice.{preferred, best_from, place_of, best_row}
+use Rattle.routing.specs.Choice.{Candidate, preferred, best_from, place_of, best_row}
 use Rattle.routing.specs.Best.{row_at, FitsAt, Best, NoneFits}
 use Rattle.routing.proofs.Ranks.{better_above, rank_above}
 
@@ -82,10 +81,3 @@ module _ (t d : List ℕ) where
 
   pub best_is : (rows : List RouteRow) → BestAt rows (best_row t d rows)
   best_is rows = best_at rows (best_from t d 0 rows) (found_from 0 rows)
-
-  within_at : (rows : List RouteRow) (o : Option Candidate) → FoundFrom 0 rows o → IfSome o (λ c. c.place < length rows)
-  within_at rows None h = tt
-  within_at rows (Some c) h = let e = h.0.1.0 in let l = h.0.1.1.0 in omega arith
-
-  pub best_within : (rows : List RouteRow) (o : Option Candidate) → o ≡ best_from t d 0 rows → IfSome o (λ c. c.place < length rows)
-  best_within rows o e = within_at rows o (subst (FoundFrom 0 rows) (sym e) (found_from 0 rows))

@@ -1,3 +1,5 @@
 pub mod Ranks
 pub mod Found
+pub mod Reduced
+pub mod Upper
 pub mod Chosen

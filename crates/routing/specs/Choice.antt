@@ -5,8 +5,12 @@ use Rattle.text.specs.declared.fault.TextFault.{TextFault}
 use Rattle.routing.specs.declared.row.Way.{Way}
 use Rattle.routing.specs.declared.row.Way.TheVariants.{Local}
 use Rattle.routing.specs.declared.row.RouteRow.{RouteRow}
-use Rattle.routing.specs.declared.choice.Candidate.{Candidate}
 use Rattle.routing.specs.Rows.{fits, rank_of}
+
+-- a row that fits, by its place in the table
+pub record Candidate : Type 0 where
+  pub place : ℕ
+  pub rank : ℕ
 
 -- the rank of a row that fits
 abbrev pub rank_if_fits : List ℕ → List ℕ → RouteRow → Option ℕ
@@ -33,6 +37,10 @@ place_of (Some found) = Some found.place
 
 abbrev pub best_row : List ℕ → List ℕ → List RouteRow → Option ℕ
 best_row target flow rows = place_of (best_from target flow 0 rows)
+
+-- the better of two rows that fit: the upper, unless the lower ranks higher
+abbrev pub better_of : RouteRow → RouteRow → RouteRow
+better_of upper lower = cond (nat_le (rank_of lower) (rank_of upper)) upper lower
 
 -- a row that says nothing, which stands for a place past the table's end
 abbrev pub no_row : RouteRow

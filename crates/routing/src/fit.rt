@@ -1,21 +1,18 @@
 // Whether a row is lawful and fits, and how it ranks.
-ghost use Rattle.std.specs.Prelude.{◌≡◌, ◌≤◌, length, take};
+ghost use Rattle.std.specs.Prelude.{◌≡◌, ◌≤◌, length};
 ghost use Rattle.routing.specs.Rows.{address_of, dataflow_of, lawful_way, lawful_address, lawful_dataflow, lawful_row, leads_to, carries, fits, name_count, rank_of};
 
 use crate::row::{RouteRow, Way};
 use address_names::names::{are_first_names, count_names};
 use text::case::is_same_text;
 use text::forms::{is_address, is_dataflow};
+use text::padding::front;
 
-// The first `len` bytes, or all where there are fewer.
-fn front(bytes: &[u8], len: usize) -> &[u8]
-    ensures { result.now ≡ take len bytes.now }
-{
-    if len > bytes.len() {
-        bytes
-    } else {
-        &bytes[0..len]
-    }
+// What a way is looked for: the target, and the dataflow that goes there.
+#[derive(Clone, Copy)]
+pub(crate) struct Query<'a> {
+    pub(crate) target: &'a [u8],
+    pub(crate) dataflow: &'a [u8],
 }
 
 impl Way {
@@ -73,10 +70,10 @@ impl RouteRow {
         !self.has_dataflow || is_same_text(self.dataflow_part(), dataflow)
     }
 
-    pub(crate) fn fits(&self, target: &[u8], dataflow: &[u8]) -> bool
-        ensures { result ≡ fits target.now dataflow.now self.now }
+    pub(crate) fn fits(&self, query: Query<'_>) -> bool
+        ensures { result ≡ fits query.entry.target.now query.entry.dataflow.now self.now }
     {
-        self.is_lawful() && self.leads_to(target) && self.carries(dataflow)
+        self.is_lawful() && self.leads_to(query.target) && self.carries(query.dataflow)
     }
 
     fn name_count(&self) -> usize

@@ -8,6 +8,7 @@ pub enum Way {
 }
 
 // Its texts stand in the first bytes of their arrays; one that its flag says is absent is ignored.
+// The flags and the lengths stay beside the bytes: the owner of the memory fills a row, with plain bytes and numbers alone.
 #[derive(Clone, Copy)]
 pub struct RouteRow {
     pub has_address: bool,

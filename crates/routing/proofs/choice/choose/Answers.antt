@@ -8,9 +8,9 @@ returns c =
     let rows = c.args.rows.now in
     let t = c.args.target.now in
     let d = c.args.dataflow.now in
-    let e = sym c.way_of_best.ensures in
+    let e = sym c.checked_way.ensures in
     record {
-      value = c.way_of_best.ensures;
+      value = c.checked_way.ensures;
       fits = subst (λ r. WhereChosen r (OfFitting rows t d)) e (chosen_fits rows t d);
       best = subst (λ r. WhereChosen r (OfBest rows t d)) e (chosen_best rows t d);
       none = subst (λ r. WhereNone r (NoneFits rows t d)) e (chosen_none rows t d);

@@ -1,0 +1,93 @@
+-- The best row, as it is picked from those that fit.
+use Rattle.std.proofs.Common.{◌≡◌, ℕ, suc, ◌+◌, ◌<◌, ◌≤◌, Bool, true, false, cond, leb, ◌⊎◌, List, [], ◌∷◌, Some, None, Option, sym, refl, ap, ◌∙◌, inl, inr, ⊎_elim, arith}
+use Rattle.std.specs.List.{fold, reduce, filter}
+use Rattle.std.specs.Option.{option_map}
+use Rattle.std.proofs.lemmas.Bool.Decides.{leb_tells}
+use Rattle.routing.specs.declared.row.RouteRow.{RouteRow}
+use Rattle.routing.specs.Rows.{fits, rank_of}
+use Rattle.routing.specs.Choice.{Candidate, preferred, best_from, place_of, best_row, better_of, way_at}
+use Rattle.routing.specs.Best.{row_at}
+
+-- the first of two, unless the second has the greater key
+module _ {X : Type 0} (key : X → ℕ) where
+  abbrev over : X → X → X
+  over a b = cond (leb (key b) (key a)) a b
+
+  tells : (a b : X) → ((key b ≤ key a) × (over a b ≡ a)) ⊎ ((key a < key b) × (over a b ≡ b))
+  tells a b = ⊎_elim (λ w. inl (w.1, ap (λ q. cond q a b) w.0)) (λ w. inr (w.1, ap (λ q. cond q a b) w.0)) (leb_tells (key b) (key a))
+
+  kept : (a b : X) → key b ≤ key a → over a b ≡ a
+  kept a b h = ⊎_elim (λ w. w.1) (λ w. absurd (omega (arith, w.0))) (tells a b)
+
+  taken : (a b : X) → key a < key b → over a b ≡ b
+  taken a b h = ⊎_elim (λ w. absurd (omega (arith, w.0))) (λ w. w.1) (tells a b)
+
+  assoc : (a b c : X) → over (over a b) c ≡ over a (over b c)
+  assoc a b c =
+      ⊎_elim
+      (λ x. ap (λ z. over z c) x.1 ∙ ⊎_elim (λ y. kept a c (omega (arith, x.0, y.0)) ∙ sym (ap (over a) y.1 ∙ x.1)) (λ y. sym (ap (over a) y.1)) (tells b c))
+      (λ x. ap (λ z. over z c) x.1 ∙ ⊎_elim (λ y. y.1 ∙ sym (ap (over a) y.1 ∙ x.1)) (λ y. y.1 ∙ sym (ap (over a) y.1 ∙ taken a c (omega (arith, x.0, y.0)))) (tells b c))
+      (tells a b)
+
+  -- a, over the best of the others
+  abbrev over_best : X → Option X → X
+  over_best a None = a
+  over_best a (Some b) = over a b
+
+  over_both : (a b : X) (o : Option X) → over_best (over a b) o ≡ over a (over_best b o)
+  over_both a b None = refl
+  over_both a b (Some c) = assoc a b c
+
+  fold_over_best : (a : X) (xs : List X) → fold over a xs ≡ over_best a (reduce over xs)
+  fold_over_best a [] = refl
+  fold_over_best a (x ∷ xs) = fold_over_best (over a x) xs ∙ over_both a x (reduce over xs) ∙ sym (ap (over a) (fold_over_best x xs))
+
+-- of the rows that fit, the uppermost of those that rank highest
+abbrev pub row_of_best : List ℕ → List ℕ → List RouteRow → Option RouteRow
+row_of_best t d rows = reduce better_of (filter (fits t d) rows)
+
+module _ (t d : List ℕ) where
+  -- row p of the rows, numbered from i, is the one that was found and the one that was picked
+  abbrev SameRow : ℕ → List RouteRow → Option Candidate → Option RouteRow → Type 0
+  SameRow i rows None None = Unit {0}
+  SameRow i rows None (Some r) = ⊥
+  SameRow i rows (Some c) None = ⊥
+  SameRow i rows (Some c) (Some r) = (p : ℕ) × (c.place ≡ i + p) × (row_at rows p ≡ r) × (c.rank ≡ rank_of r)
+
+  module _ (i : ℕ) (row : RouteRow) (rows : List RouteRow) where
+    further : (o : Option Candidate) (r : Option RouteRow) → SameRow (i + 1) rows o r → SameRow i (row ∷ rows) o r
+    further None None h = tt
+    further None (Some r) h = h
+    further (Some c) None h = h
+    further (Some c) (Some r) h = let e = h.1 in (suc h.0, omega arith, h.2, h.3)
+
+    here : (o : Option Candidate) (r : Option RouteRow) → SameRow (i + 1) rows o r → SameRow i (row ∷ rows) (preferred i (Some (rank_of row)) o) (Some (over_best rank_of row r))
+    here None None h = (0, omega arith, refl, refl)
+    here None (Some r) h = absurd h
+    here (Some c) None h = absurd h
+    here (Some c) (Some r) h =
+        ⊎_elim
+        (λ w. rw w.0 (let k : rank_of r ≤ rank_of row = omega (arith, w.1, h.3) in let e = sym (kept rank_of row r k) in (0, omega arith, e, ap rank_of e)))
+        (λ w. rw w.0 (let k : rank_of row < rank_of r = omega (arith, w.1, h.3) in
+        let e = sym (taken rank_of row r k) in
+        let m = h.1 in (suc h.0, omega arith, h.2 ∙ e, h.3 ∙ ap rank_of e)))
+        (leb_tells c.rank (rank_of row))
+
+    step : (b : Bool) (o : Option Candidate) → SameRow (i + 1) rows o (row_of_best t d rows)
+        → SameRow i (row ∷ rows) (preferred i (cond b (Some (rank_of row)) None) o) (reduce better_of (cond b (row ∷ filter (fits t d) rows) (filter (fits t d) rows)))
+    step false o h = further o (row_of_best t d rows) h
+    step true o h = rw (fold_over_best rank_of row (filter (fits t d) rows)) (here o (row_of_best t d rows) h)
+
+  same_row : (i : ℕ) (rows : List RouteRow) → SameRow i rows (best_from t d i rows) (row_of_best t d rows)
+  same_row i [] = tt
+  same_row i (row ∷ rows) = step i row rows (fits t d row) (best_from t d (i + 1) rows) (same_row (i + 1) rows)
+
+  way_of_same : (rows : List RouteRow) (o : Option Candidate) (r : Option RouteRow) → SameRow 0 rows o r → option_map (λ x. x.way) r ≡ way_at rows (place_of o)
+  way_of_same rows None None h = refl
+  way_of_same rows None (Some r) h = absurd h
+  way_of_same rows (Some c) None h = absurd h
+  way_of_same rows (Some c) (Some r) h = let e : c.place ≡ h.0 = omega (arith, h.1) in ap Some (ap (λ x. x.way) (sym h.2) ∙ ap (λ k. (row_at rows k).way) (sym e))
+
+  -- the way of the row that is picked is that of the best row by its place
+  pub picked_way : (rows : List RouteRow) → option_map (λ x. x.way) (row_of_best t d rows) ≡ way_at rows (best_row t d rows)
+  picked_way rows = way_of_same rows (best_from t d 0 rows) (row_of_best t d rows) (same_row 0 rows)
