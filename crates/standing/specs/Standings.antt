@@ -1,7 +1,14 @@
 -- What becomes of a standing.
-use Rattle.std.specs.Prelude.{ℕ, cond, List, nat_lt, slice_index_or, slice_set}
+use Rattle.std.specs.Prelude.{ℕ, Bool, true, false, cond, List, nat_lt, slice_index_or, slice_set}
 use Rattle.standing.specs.declared.standing.Standing.{Standing}
 use Rattle.standing.specs.declared.standing.Standing.TheVariants.{Free, Waiting, Out, Inbox, Notice}
+
+abbrev pub is_free : Standing → Bool
+is_free Free = true
+is_free (Waiting hop due failed about) = false
+is_free (Out hop n s failed about) = false
+is_free (Inbox entered about) = false
+is_free (Notice entered about) = false
 
 -- a waiting envelope goes out under a try number
 abbrev pub out_under : ℕ → ℕ → Standing → Standing

@@ -1,6 +1,6 @@
 // The standing of a place (our own word): what has become of the envelope that lies in it.
 ghost use Rattle.std.specs.Prelude.{◌≡◌};
-ghost use Rattle.standing.specs.Standings.{out_under, waiting_again};
+ghost use Rattle.standing.specs.Standings.{is_free, out_under, waiting_again};
 
 use envelope::parts::Kind;
 use routing::row::Way;
@@ -52,6 +52,12 @@ pub enum Standing {
 }
 
 impl Standing {
+    pub(crate) fn is_free(&self) -> bool
+        ensures { result ≡ is_free self.now }
+    {
+        matches!(self, Standing::Free)
+    }
+
     // A waiting envelope is out under a try number; any other stays as it is.
     pub(crate) fn hand_out(&mut self, number: u32, since: u32)
         ensures { self.new ≡ out_under number since self.old }

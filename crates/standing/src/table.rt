@@ -1,5 +1,5 @@
 // The standings of 256 places. One is lent at a time, and changed by the few functions below.
-ghost use Rattle.std.specs.Prelude.{◌≡◌, min, take, replicate};
+ghost use Rattle.std.specs.Prelude.{◌≡◌, length, min, take, replicate};
 ghost use Rattle.standing.specs.declared.standing.Standing.TheVariants.{Free, Waiting, Inbox, Notice};
 ghost use Rattle.standing.specs.Standings.{out_under, waiting_again, standing_at, with_standing};
 ghost use Rattle.standing.specs.Frees.{first_free};
@@ -11,6 +11,14 @@ pub const PLACES: usize = 256;
 #[derive(Drop)]
 pub struct Table {
     standings: [Standing; 256],
+    // what the array's type says, for the contracts of other crates
+    ghost full: { length standings ≡ 256 },
+}
+
+fn first_free(standings: &[Standing]) -> Option<usize>
+    ensures { result ≡ first_free 0 standings.now }
+{
+    standings.iter().position(|standing| standing.is_free())
 }
 
 impl Table {
@@ -27,12 +35,11 @@ impl Table {
     pub fn at(&self, place: usize) -> Standing
         ensures { result ≡ standing_at self.now.standings place }
     {
-        if place >= PLACES {
-            return Standing::Free;
-        }
-        self.standings[place]
+        self.standings.get(place).copied().unwrap_or(Standing::Free)
     }
 
+    // Here, in `hand_out` and in `wait_again` a place is compared and indexed: `get_mut` was tried, and the proof of what the
+    // table holds afterwards didn't close.
     fn put(&mut self, place: usize, standing: Standing)
         ensures { self.new.standings ≡ with_standing self.old.standings place standing }
     {
@@ -93,25 +100,12 @@ impl Table {
     {
         self.put(place, Standing::Free);
     }
-}
 
-fn first_free(standings: &[Standing]) -> Option<usize>
-    ensures { result ≡ first_free 0 standings.now }
-{
-    for i in 0..standings.len() {
-        if let Standing::Free = standings[i] {
-            return Some(i);
-        }
-    }
-    None
-}
-
-impl Table {
     // The lowest free place of the first `count`.
     pub fn lowest_free(&self, count: usize) -> Option<usize>
         ensures { result ≡ first_free 0 (take (min count 256) self.now.standings) }
     {
-        first_free(&self.standings[0..count.min(PLACES)])
+        first_free(&self.standings[..count.min(PLACES)])
     }
 
     // The standings of all places, to look through.
