@@ -1,5 +1,4 @@
 pub mod Ranks
 pub mod Found
-pub mod Reduced
 pub mod Upper
 pub mod Chosen

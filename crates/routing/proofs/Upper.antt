@@ -1,46 +1,27 @@
 -- The best row, as it is picked from those that fit.
-use Rattle.std.proofs.Common.{◌≡◌, ℕ, suc, ◌+◌, ◌<◌, ◌≤◌, Bool, true, false, cond, leb, ◌⊎◌, List, [], ◌∷◌, Some, None, Option, sym, refl, ap, ◌∙◌, inl, inr, ⊎_elim, arith}
+use Rattle.std.proofs.Common.{◌≡◌, ℕ, suc, ◌+◌, Bool, true, false, cond, leb, List, [], ◌∷◌, Some, None, Option, sym, refl, ap, ◌∙◌, ⊎_elim, arith}
 use Rattle.std.specs.List.{fold, reduce, filter}
 use Rattle.std.specs.Option.{option_map}
-use Rattle.std.proofs.lemmas.Bool.Decides.{leb_tells}
+use Rattle.std.proofs.lemmas.Bool.Decides.{leb_tells, nat_tests}
+use Rattle.text.proofs.Chains.{onto_first, fold_onto_first, kept, taken, pick_assoc}
 use Rattle.routing.specs.declared.row.RouteRow.{RouteRow}
 use Rattle.routing.specs.Rows.{fits, rank_of}
 use Rattle.routing.specs.Choice.{Candidate, preferred, best_from, place_of, best_row, better_of, way_at}
 use Rattle.routing.specs.Best.{row_at}
 
--- the first of two, unless the second has the greater key
-module _ {X : Type 0} (key : X → ℕ) where
-  abbrev over : X → X → X
-  over a b = cond (leb (key b) (key a)) a b
+-- the upper of two rows stays where the lower ranks no higher
+abbrev stays : RouteRow → RouteRow → Bool
+stays upper lower = leb (rank_of lower) (rank_of upper)
 
-  tells : (a b : X) → ((key b ≤ key a) × (over a b ≡ a)) ⊎ ((key a < key b) × (over a b ≡ b))
-  tells a b = ⊎_elim (λ w. inl (w.1, ap (λ q. cond q a b) w.0)) (λ w. inr (w.1, ap (λ q. cond q a b) w.0)) (leb_tells (key b) (key a))
+both_stay : (m n k : ℕ) → leb n m ≡ true → leb k n ≡ true → leb k m ≡ true
+both_stay m n k a b = grind (arith, nat_tests)
 
-  kept : (a b : X) → key b ≤ key a → over a b ≡ a
-  kept a b h = ⊎_elim (λ w. w.1) (λ w. absurd (omega (arith, w.0))) (tells a b)
+none_stays : (m n k : ℕ) → leb n m ≡ false → leb k n ≡ false → leb k m ≡ false
+none_stays m n k a b = grind (arith, nat_tests)
 
-  taken : (a b : X) → key a < key b → over a b ≡ b
-  taken a b h = ⊎_elim (λ w. absurd (omega (arith, w.0))) (λ w. w.1) (tells a b)
-
-  assoc : (a b c : X) → over (over a b) c ≡ over a (over b c)
-  assoc a b c =
-      ⊎_elim
-      (λ x. ap (λ z. over z c) x.1 ∙ ⊎_elim (λ y. kept a c (omega (arith, x.0, y.0)) ∙ sym (ap (over a) y.1 ∙ x.1)) (λ y. sym (ap (over a) y.1)) (tells b c))
-      (λ x. ap (λ z. over z c) x.1 ∙ ⊎_elim (λ y. y.1 ∙ sym (ap (over a) y.1 ∙ x.1)) (λ y. y.1 ∙ sym (ap (over a) y.1 ∙ taken a c (omega (arith, x.0, y.0)))) (tells b c))
-      (tells a b)
-
-  -- a, over the best of the others
-  abbrev over_best : X → Option X → X
-  over_best a None = a
-  over_best a (Some b) = over a b
-
-  over_both : (a b : X) (o : Option X) → over_best (over a b) o ≡ over a (over_best b o)
-  over_both a b None = refl
-  over_both a b (Some c) = assoc a b c
-
-  fold_over_best : (a : X) (xs : List X) → fold over a xs ≡ over_best a (reduce over xs)
-  fold_over_best a [] = refl
-  fold_over_best a (x ∷ xs) = fold_over_best (over a x) xs ∙ over_both a x (reduce over xs) ∙ sym (ap (over a) (fold_over_best x xs))
+from_the_first : (row : RouteRow) (rows : List RouteRow) → fold better_of row rows ≡ onto_first better_of row (reduce better_of rows)
+from_the_first = fold_onto_first better_of
+    (pick_assoc stays (λ a b c. both_stay (rank_of a) (rank_of b) (rank_of c)) (λ a b c. none_stays (rank_of a) (rank_of b) (rank_of c)))
 
 -- of the rows that fit, the uppermost of those that rank highest
 abbrev pub row_of_best : List ℕ → List ℕ → List RouteRow → Option RouteRow
@@ -61,22 +42,21 @@ module _ (t d : List ℕ) where
     further (Some c) None h = h
     further (Some c) (Some r) h = let e = h.1 in (suc h.0, omega arith, h.2, h.3)
 
-    here : (o : Option Candidate) (r : Option RouteRow) → SameRow (i + 1) rows o r → SameRow i (row ∷ rows) (preferred i (Some (rank_of row)) o) (Some (over_best rank_of row r))
+    here : (o : Option Candidate) (r : Option RouteRow) → SameRow (i + 1) rows o r → SameRow i (row ∷ rows) (preferred i (Some (rank_of row)) o) (Some (onto_first better_of row r))
     here None None h = (0, omega arith, refl, refl)
     here None (Some r) h = absurd h
     here (Some c) None h = absurd h
     here (Some c) (Some r) h =
         ⊎_elim
-        (λ w. rw w.0 (let k : rank_of r ≤ rank_of row = omega (arith, w.1, h.3) in let e = sym (kept rank_of row r k) in (0, omega arith, e, ap rank_of e)))
-        (λ w. rw w.0 (let k : rank_of row < rank_of r = omega (arith, w.1, h.3) in
-        let e = sym (taken rank_of row r k) in
+        (λ w. rw w.0 (let e = sym (kept stays row r (sym (ap (λ k. leb k (rank_of row)) h.3) ∙ w.0)) in (0, omega arith, e, ap rank_of e)))
+        (λ w. rw w.0 (let e = sym (taken stays row r (sym (ap (λ k. leb k (rank_of row)) h.3) ∙ w.0)) in
         let m = h.1 in (suc h.0, omega arith, h.2 ∙ e, h.3 ∙ ap rank_of e)))
         (leb_tells c.rank (rank_of row))
 
     step : (b : Bool) (o : Option Candidate) → SameRow (i + 1) rows o (row_of_best t d rows)
         → SameRow i (row ∷ rows) (preferred i (cond b (Some (rank_of row)) None) o) (reduce better_of (cond b (row ∷ filter (fits t d) rows) (filter (fits t d) rows)))
     step false o h = further o (row_of_best t d rows) h
-    step true o h = rw (fold_over_best rank_of row (filter (fits t d) rows)) (here o (row_of_best t d rows) h)
+    step true o h = rw (from_the_first row (filter (fits t d) rows)) (here o (row_of_best t d rows) h)
 
   same_row : (i : ℕ) (rows : List RouteRow) → SameRow i rows (best_from t d i rows) (row_of_best t d rows)
   same_row i [] = tt

@@ -1,3 +1,4 @@
 pub mod Named
 pub mod Joins
 pub mod Padded
+pub mod Chains

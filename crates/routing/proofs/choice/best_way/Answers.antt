@@ -4,7 +4,7 @@ use Rattle.std.proofs.lemmas.Iterator.{YieldsList-from_slice}
 use Rattle.std.proofs.lemmas.Iterator.Consumers.{YieldsList-from_filter}
 use Rattle.routing.specs.Rows.{fits}
 use Rattle.routing.specs.Choice.{better_of}
-use Rattle.routing.proofs.Reduced.{reduced}
+use Rattle.text.proofs.Chains.{reduced}
 use Rattle.routing.proofs.Upper.{row_of_best, picked_way}
 use Rattle.routing.proofs.choice.best_way.Goals as goal
 
