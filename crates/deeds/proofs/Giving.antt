@@ -16,10 +16,8 @@ use Rattle.std.proofs.lemmas.List.{take_at}
 use Rattle.spool.specs.Meaning.{at, copy_answer, copied, over_front}
 use Rattle.spool.specs.declared.fault.SpoolFault.{SpoolFault}
 use Rattle.spool.specs.declared.fault.SpoolFault.TheVariants.{NoPlace, ShortBuffer}
-use Rattle.searches.specs.Earliest.{time_of, FirstOf}
+use Rattle.searches.specs.Earliest.{time_of, FirstOf, Wanted, Entry, Notified}
 use Rattle.searches.specs.declared.search.Found.{Found}
-use Rattle.searches.specs.declared.search.Wanted.{Wanted}
-use Rattle.searches.specs.declared.search.Wanted.TheVariants.{Entry, Notified}
 use Rattle.searches.proofs.First.{first_of}
 use Rattle.relay.specs.Moves.{discharged}
 use Rattle.office.specs.Gifts.{kind_at, given_as, freed_if, taken_answer, taken_buffer, taken_state, oldest}

@@ -3,9 +3,8 @@ use Rattle.std.proofs.Common.{◌≡◌, ℕ, ◌+◌, true, false, cond, eqb, L
 use Rattle.message_rows.specs.declared.message.MessageRow.{MessageRow}
 use Rattle.spool.specs.Meaning.{at}
 use Rattle.standing.specs.Standings.{standing_at, with_standing, out_under}
-use Rattle.searches.specs.Earliest.{time_of, FirstOf}
+use Rattle.searches.specs.Earliest.{time_of, FirstOf, Due}
 use Rattle.searches.specs.declared.search.Found.{Found}
-use Rattle.searches.specs.declared.search.Wanted.TheVariants.{Due}
 use Rattle.standing.specs.declared.standing.About.{About}
 use Rattle.standing.specs.declared.standing.Standing.{Standing}
 use Rattle.standing.specs.declared.standing.Standing.TheVariants.{Free, Waiting, Out, Inbox, Notice}

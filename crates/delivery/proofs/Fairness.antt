@@ -1,8 +1,7 @@
 -- What a hand-out tells, in words of places and times.
 use Rattle.std.proofs.Common.{ℕ, max, true, false, cond, eqb, List, Some, None, Ok, Err, Option, Result, refl}
-use Rattle.searches.specs.Earliest.{FirstOf}
+use Rattle.searches.specs.Earliest.{FirstOf, Due}
 use Rattle.searches.specs.declared.search.Found.{Found}
-use Rattle.searches.specs.declared.search.Wanted.TheVariants.{Due}
 use Rattle.standing.specs.declared.standing.Standing.{Standing}
 use Rattle.searches.proofs.First.{first_of}
 use Rattle.relay.specs.States.{State, timed}

@@ -1,9 +1,8 @@
 -- Handing out: what is told, and what it leaves.
 use Rattle.std.specs.Prelude.{◌≡◌, ℕ, ◌+◌, ◌≤◌, cond, List, Some, None, Ok, Err, Option, Result, ◌==◌}
 use Rattle.standing.specs.Standings.{standing_at, with_standing, out_under}
-use Rattle.searches.specs.Earliest.{earliest, Wants}
+use Rattle.searches.specs.Earliest.{earliest, Wants, Due}
 use Rattle.searches.specs.declared.search.Found.{Found}
-use Rattle.searches.specs.declared.search.Wanted.TheVariants.{Due}
 use Rattle.standing.specs.declared.standing.Standing.{Standing}
 use Rattle.standing.specs.declared.standing.Standing.TheVariants.{Free, Waiting, Out, Inbox, Notice}
 use Rattle.relay.specs.States.{State, timed}

@@ -5,9 +5,8 @@ use Rattle.envelope.specs.declared.parts.Kind.TheVariants.{Message}
 use Rattle.spool.specs.Meaning.{copy_answer, copied}
 use Rattle.spool.specs.declared.fault.SpoolFault.{SpoolFault}
 use Rattle.standing.specs.Standings.{standing_at}
-use Rattle.searches.specs.Earliest.{earliest}
+use Rattle.searches.specs.Earliest.{earliest, Wanted}
 use Rattle.searches.specs.declared.search.Found.{Found}
-use Rattle.searches.specs.declared.search.Wanted.{Wanted}
 use Rattle.standing.specs.declared.standing.Standing.{Standing}
 use Rattle.standing.specs.declared.standing.Standing.TheVariants.{Free, Waiting, Out, Inbox, Notice}
 use Rattle.relay.specs.States.{State, timed}

@@ -1,7 +1,7 @@
 // Giving the oldest entry of the inbox to the local office, and the oldest notice to its contacts.
 ghost use Rattle.std.specs.Prelude.{◌≡◌};
-ghost use Rattle.searches.specs.declared.search.Wanted.TheVariants.{Entry, Notified};
-ghost use Rattle.searches.specs.Earliest.{earliest};
+ghost use Rattle.relay.specs.States.{view};
+ghost use Rattle.searches.specs.Earliest.{Entry, Notified, earliest};
 ghost use Rattle.office.specs.Gifts.{kind_at, taken_answer, taken_buffer, taken_state, oldest_answer, oldest_buffer, oldest_state};
 
 use envelope::parts::Kind;

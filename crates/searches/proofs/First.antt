@@ -3,8 +3,7 @@ use Rattle.std.proofs.Common.{◌≡◌, ℕ, zero, suc, ◌+◌, ◌<◌, ◌�
 use Rattle.std.proofs.lemmas.Bool.Decides.{leb_tells}
 use Rattle.standing.specs.declared.standing.Standing.{Standing}
 use Rattle.searches.specs.declared.search.Found.{Found}
-use Rattle.searches.specs.declared.search.Wanted.{Wanted}
-use Rattle.searches.specs.Earliest.{time_of, earlier, earliest, Wants, FirstOf}
+use Rattle.searches.specs.Earliest.{Wanted, time_of, earlier, earliest, Wants, FirstOf}
 
 -- the same of places numbered from i
 abbrev FirstFrom : Wanted → ℕ → List Standing → Option Found → Type 0

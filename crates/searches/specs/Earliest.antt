@@ -3,9 +3,13 @@ use Rattle.std.specs.Prelude.{◌≡◌, ℕ, ◌+◌, ◌<◌, ◌≤◌, Bool,
 use Rattle.standing.specs.declared.standing.Standing.{Standing}
 use Rattle.standing.specs.declared.standing.Standing.TheVariants.{Free}
 use Rattle.searches.specs.declared.search.Found.{Found}
-use Rattle.searches.specs.declared.search.Wanted.{Wanted}
-use Rattle.searches.specs.declared.search.Wanted.TheVariants.{Due, Entry, Notified}
 use Rattle.searches.specs.Searches.{due_at, inbox_since, notice_since}
+
+-- what is looked for: a live waiting envelope that is due at a time, an entry of the inbox, or a notice
+pub data Wanted : Type 0 where
+  Due : ℕ → Wanted
+  Entry : Wanted
+  Notified : Wanted
 
 -- the time by which a search orders, at a standing that it looks for
 abbrev pub time_of : Wanted → Standing → Option ℕ
@@ -22,10 +26,22 @@ abbrev pub earlier : ℕ → Option ℕ → Option Found → Option Found
 earlier i None rest = rest
 earlier i (Some time) rest = cond (no_later time rest) (Some (record { place = i; time = time })) rest
 
--- of the places of ss, numbered from i, the one with the least time, then the lowest
+-- of the places of ss, numbered from i, where h gives a time, the one with the least time, then the lowest
+abbrev pub earliest_by : (Standing → Option ℕ) → ℕ → List Standing → Option Found
+earliest_by h i [] = None
+earliest_by h i (s ∷ ss) = earlier i (h s) (earliest_by h (i + 1) ss)
+
+-- the same for what is looked for
 abbrev pub earliest : Wanted → ℕ → List Standing → Option Found
-earliest w i [] = None
-earliest w i (s ∷ ss) = earlier i (time_of w s) (earliest w (i + 1) ss)
+earliest w i ss = earliest_by (time_of w) i ss
+
+-- a call gives what h gives
+abbrev pub Computes : (Standing → Option ℕ → Type 0) → (Standing → Option ℕ) → Type 0
+Computes gives h = (s : Standing) (time : Option ℕ) → gives s time → time ≡ h s
+
+-- of two that were found, the one with the earlier time, the first where both have the same
+abbrev pub sooner : Found → Found → Found
+sooner first second = cond (nat_le first.time second.time) first second
 
 -- place k of ss is one that is looked for, with this time
 abbrev pub Wants : Wanted → List Standing → ℕ → ℕ → Type 0

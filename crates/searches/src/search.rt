@@ -1,18 +1,10 @@
-// What a search over the places looks for, and what it finds.
+// What a search over the places looks for at a standing, and what it finds.
 ghost use Rattle.std.specs.Prelude.{◌≡◌};
 ghost use Rattle.searches.specs.Searches.{due_at, inbox_since, notice_since, duty_at};
-ghost use Rattle.searches.specs.Earliest.{time_of, earlier};
+ghost use Rattle.searches.specs.Earliest.{sooner};
 
 use envelope::parts::Kind;
 use standing::standing::Standing;
-
-// A live waiting envelope that is due at a time, an entry of the inbox, or a notice.
-#[derive(Clone, Copy)]
-pub enum Wanted {
-    Due(u32),
-    Entry,
-    Notified,
-}
 
 // A place, and the time by which it was found.
 #[derive(Clone, Copy)]
@@ -35,7 +27,7 @@ pub struct Task {
     pub duty: Duty,
 }
 
-fn due_at(time: u32, standing: Standing) -> Option<u64>
+pub(crate) fn due_at(time: u32, standing: Standing) -> Option<u64>
     ensures { result ≡ due_at time standing }
 {
     match standing {
@@ -45,7 +37,7 @@ fn due_at(time: u32, standing: Standing) -> Option<u64>
     }
 }
 
-fn inbox_since(standing: Standing) -> Option<u64>
+pub(crate) fn inbox_since(standing: Standing) -> Option<u64>
     ensures { result ≡ inbox_since standing }
 {
     match standing {
@@ -54,7 +46,7 @@ fn inbox_since(standing: Standing) -> Option<u64>
     }
 }
 
-fn notice_since(standing: Standing) -> Option<u64>
+pub(crate) fn notice_since(standing: Standing) -> Option<u64>
     ensures { result ≡ notice_since standing }
 {
     match standing {
@@ -63,25 +55,14 @@ fn notice_since(standing: Standing) -> Option<u64>
     }
 }
 
-// The time by which a search orders, at a standing that it looks for.
-pub(crate) fn time_of(wanted: Wanted, standing: Standing) -> Option<u64>
-    ensures { result ≡ time_of wanted standing }
+// Of two places the one with the earlier time; the first where both have the same.
+pub(crate) fn sooner(first: Found, second: Found) -> Found
+    ensures { result ≡ sooner first second }
 {
-    match wanted {
-        Wanted::Due(time) => due_at(time, standing),
-        Wanted::Entry => inbox_since(standing),
-        Wanted::Notified => notice_since(standing),
-    }
-}
-
-// The place with its time, unless it has none or what was found above it is earlier.
-pub(crate) fn earlier_of(place: usize, time: Option<u64>, rest: Option<Found>) -> Option<Found>
-    ensures { result ≡ earlier place time rest }
-{
-    match (time, rest) {
-        (None, _) => rest,
-        (Some(time), Some(found)) if found.time < time => rest,
-        (Some(time), _) => Some(Found { place, time }),
+    if first.time <= second.time {
+        first
+    } else {
+        second
     }
 }
 

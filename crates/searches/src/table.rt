@@ -1,40 +1,35 @@
 // Looking through the standings of all places.
-ghost use Rattle.std.specs.Prelude.{◌≡◌};
+ghost use Rattle.std.specs.Prelude.{◌≡◌, ℕ, Option};
+ghost use Rattle.standing.specs.declared.standing.Standing.{Standing};
 ghost use Rattle.searches.specs.Searches.{first_duty};
-ghost use Rattle.searches.specs.Earliest.{earliest, FirstOf};
-ghost use Rattle.searches.specs.declared.search.Wanted.TheVariants.{Due, Entry, Notified};
+ghost use Rattle.searches.specs.Earliest.{Due, Entry, Notified, Computes, earliest_by, earliest, FirstOf};
 
-use crate::search::{Found, Task, Wanted, duty_at, earlier_of, time_of};
+use crate::search::{Found, Task, due_at, duty_at, inbox_since, notice_since, sooner};
 use standing::standing::Standing;
 use standing::table::Table;
 
 fn lowest_duty(standings: &[Standing], time: u32) -> Option<Task>
     ensures { result ≡ first_duty time 0 standings.now }
 {
-    for i in 0..standings.len() {
-        if let Some(duty) = duty_at(time, standings[i]) {
-            return Some(Task { place: i, duty });
+    for (place, standing) in standings.iter().enumerate() {
+        if let Some(duty) = duty_at(time, *standing) {
+            return Some(Task { place, duty });
         }
     }
     None
 }
 
-fn find_earliest(standings: &[Standing], wanted: Wanted) -> Option<Found>
-    ensures { result ≡ earliest wanted 0 standings.now }
+// Of the places at which `time_of` gives a time, the one with the least, then the lowest.
+fn earliest<F: Fn(Standing) -> Option<u64>>(table: &Table, time_of: F) -> Option<Found>
+    requires { F.IsAlwaysCallable time_of }
+    ensures { (h : Standing → Option ℕ) → Computes (F.post time_of) h → result ≡ earliest_by h 0 table.now.standings }
 {
-    let mut best = None;
-    for i in (0..standings.len()).rev() {
-        best = earlier_of(i, time_of(wanted, standings[i]), best);
-    }
-    best
-}
-
-// The same, with what it means that a place is the earliest.
-fn find_first(standings: &[Standing], wanted: Wanted) -> Option<Found>
-    ensures value { result ≡ earliest wanted 0 standings.now }
-    ensures first { FirstOf wanted standings.now result }
-{
-    find_earliest(standings, wanted)
+    table
+        .all()
+        .iter()
+        .enumerate()
+        .filter_map(|(place, standing)| time_of(*standing).map(|time| Found { place, time }))
+        .reduce(sooner)
 }
 
 // The lowest place where something is due, and what.
@@ -45,25 +40,28 @@ pub fn first_duty(table: &Table, time: u32) -> Option<Task>
 }
 
 // Of the live waiting envelopes that are due, the one with the least due time, then the lowest place.
+#[tactic(auto, using(crate::proofs::First::first_of))]
 pub fn next_due(table: &Table, time: u32) -> Option<Found>
     ensures value { result ≡ earliest (Due time) 0 table.now.standings }
     ensures first { FirstOf (Due time) table.now.standings result }
 {
-    find_first(table.all(), Wanted::Due(time))
+    earliest(table, |standing| due_at(time, standing))
 }
 
 // The entry of the inbox that came first, then the lowest place.
+#[tactic(auto, using(crate::proofs::First::first_of))]
 pub fn oldest_entry(table: &Table) -> Option<Found>
     ensures value { result ≡ earliest Entry 0 table.now.standings }
     ensures first { FirstOf Entry table.now.standings result }
 {
-    find_first(table.all(), Wanted::Entry)
+    earliest(table, inbox_since)
 }
 
 // The notice that came first, then the lowest place.
+#[tactic(auto, using(crate::proofs::First::first_of))]
 pub fn oldest_notice(table: &Table) -> Option<Found>
     ensures value { result ≡ earliest Notified 0 table.now.standings }
     ensures first { FirstOf Notified table.now.standings result }
 {
-    find_first(table.all(), Wanted::Notified)
+    earliest(table, notice_since)
 }

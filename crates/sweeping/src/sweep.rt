@@ -1,5 +1,6 @@
 // What is due by the clock alone: a try that nobody answered, a message that expired, a status that was kept long enough.
-ghost use Rattle.std.specs.Prelude.{◌≡◌, max, length};
+ghost use Rattle.std.specs.Prelude.{◌≡◌, max};
+ghost use Rattle.relay.specs.States.{view};
 ghost use Rattle.sweeping.specs.Sweeps.{chore, sweep_answer, sweep_state, LowestDue};
 
 use ending::act::{Act, Done, Task, perform};
@@ -20,6 +21,8 @@ pub struct Swept {
 }
 
 // What a duty asks to be done with the envelope that it was found at.
+// The standing is matched again: a duty is found in a crate that knows of no acts, and one that carried what its act needs would
+// say each of them twice.
 fn chore(duty: Duty, standing: Standing) -> Option<Task>
     ensures { result ≡ chore duty standing }
 {
@@ -52,12 +55,11 @@ fn sweep_one<S: Spool>(relay: &mut Relay<S>, clock: u32) -> Option<Swept>
     Some(Swept { place, done })
 }
 
-// Does what is due at the lowest place where something is; nothing where nothing is due. (The table has 256 standings by its
-// type; a contract out here is not told so, and says it as a premise.)
+// Does what is due at the lowest place where something is; nothing where nothing is due.
 pub fn sweep<S: Spool>(relay: &mut Relay<S>, clock: u32) -> Option<Swept>
-    ensures answer { result ≡ sweep_answer relay.old clock }
-    ensures state { relay.new ≡ sweep_state relay.old clock }
-    ensures lowest_due { length relay.old.standings ≡ 256 → LowestDue (max relay.old.time clock) relay.old.standings result }
+    ensures answer { result ≡ sweep_answer (view S.held relay.old) clock }
+    ensures state { view S.held relay.new ≡ sweep_state (view S.held relay.old) clock }
+    ensures lowest_due { LowestDue (max relay.old.time clock) relay.old.table.standings result }
 {
     sweep_one(relay, clock)
 }

@@ -13,11 +13,11 @@ turn t i xs o h inv e =
     ap (λ o. duty_or i o rest) e ∙ (sym (at_drop_more (first_duty t i) xs i Free h) ∙ inv)
 
 pub returns-in-Some : goal.returns-in-Some
-returns-in-Some c = turn c.args.time c.loop-i.i c.args.standings.now _ (omega arith) c.loop-i.invariant c.in-Some.ensures
+returns-in-Some c = turn c.args.time c.loop-place.place c.args.standings.now _ (omega arith) c.loop-place.invariant c.in-Some.ensures
 
-pub loop-i-preserved : goal.loop-i-preserved
-loop-i-preserved c = turn c.args.time c.loop-i.i c.args.standings.now _ (omega arith) c.loop-i.invariant c.in_default.ensures
+pub loop-place-preserved : goal.loop-place-preserved
+loop-place-preserved c = turn c.args.time c.loop-place.place c.args.standings.now _ (omega arith) c.loop-place.invariant c.in_default.ensures
 
 pub returns : goal.returns
 returns c =
-    sym (at_drop_all (first_duty c.args.time c.loop-i.i) c.args.standings.now c.loop-i.i (omega arith)) ∙ c.loop-i.invariant
+    sym (at_drop_all (first_duty c.args.time c.loop-place.place) c.args.standings.now c.loop-place.place (omega arith)) ∙ c.loop-place.invariant
