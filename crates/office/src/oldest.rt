@@ -1,6 +1,6 @@
 // Giving the oldest entry of the inbox to the local office, and the oldest notice to its contacts.
 ghost use Rattle.std.specs.Prelude.{◌≡◌};
-ghost use Rattle.relay.specs.States.{view};
+ghost use Rattle.relay.specs.States.{view, timed};
 ghost use Rattle.searches.specs.Earliest.{Entry, Notified, earliest};
 ghost use Rattle.office.specs.Gifts.{kind_at, taken_answer, taken_buffer, taken_state, oldest_answer, oldest_buffer, oldest_state};
 
@@ -24,23 +24,25 @@ fn kind_at(standing: Standing) -> Kind
 {
     match standing {
         Standing::Free => Kind::Message,
-        Standing::Waiting { about, .. } => about.kind,
-        Standing::Out { about, .. } => about.kind,
-        Standing::Inbox { about, .. } => about.kind,
-        Standing::Notice { about, .. } => about.kind,
+        Standing::Waiting { about, .. }
+        | Standing::Out { about, .. }
+        | Standing::Inbox { about, .. }
+        | Standing::Notice { about, .. } => about.kind,
     }
 }
 
-// Copies the record at the place that was found, and frees the place.
-fn take<S: Spool>(
+// Takes the clock reading, copies the record at the place that was found, and frees the place.
+fn give<S: Spool>(
     relay: &mut Relay<S>,
+    clock: u32,
     found: Option<Found>,
     buf: &mut [u8],
 ) -> Result<Option<Given>, SpoolFault>
-    ensures answer { result ≡ taken_answer relay.old found buf.old }
-    ensures buffer { buf.new ≡ taken_buffer relay.old found buf.old }
-    ensures state { relay.new ≡ taken_state relay.old found buf.old }
+    ensures answer { result ≡ taken_answer (timed (view S.held relay.old) clock) found buf.old }
+    ensures buffer { buf.new ≡ taken_buffer (timed (view S.held relay.old) clock) found buf.old }
+    ensures state { view S.held relay.new ≡ taken_state (timed (view S.held relay.old) clock) found buf.old }
 {
+    relay.tick(clock);
     let Some(found) = found else {
         return Ok(None);
     };
@@ -62,9 +64,8 @@ pub fn collect<S: Spool>(
     ensures buffer { buf.new ≡ oldest_buffer Entry relay.old clock buf.old }
     ensures state { relay.new ≡ oldest_state Entry relay.old clock buf.old }
 {
-    relay.tick(clock);
     let found = oldest_entry(&relay.table);
-    take(relay, found, buf)
+    give(relay, clock, found, buf)
 }
 
 // The notice that is oldest, then at the lowest place, goes to its contacts; none where there is none. It stays where the
@@ -78,7 +79,6 @@ pub fn notice<S: Spool>(
     ensures buffer { buf.new ≡ oldest_buffer Notified relay.old clock buf.old }
     ensures state { relay.new ≡ oldest_state Notified relay.old clock buf.old }
 {
-    relay.tick(clock);
     let found = oldest_notice(&relay.table);
-    take(relay, found, buf)
+    give(relay, clock, found, buf)
 }
