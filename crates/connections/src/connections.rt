@@ -9,7 +9,8 @@ use connection::admitted::Admitted;
 // How many connections can be admitted at a time.
 pub const CONNECTIONS: usize = 64;
 
-// A number under which no connection is admitted, or one is.
+// A number under which no connection is admitted, or one is. An `Option` would be no plainer: it has a drop only where what it
+// holds has one, and a connection has none, so that nobody lets one go unclosed.
 pub enum Slot {
     Closed,
     Admitted(Admitted),
@@ -44,12 +45,9 @@ impl Connections {
     pub fn at(&self, number: usize) -> Option<&Admitted>
         ensures { lent_admitted result ≡ admitted_at self.now.slots number }
     {
-        if number >= CONNECTIONS {
-            return None;
-        }
-        match &self.slots[number] {
-            Slot::Closed => None,
-            Slot::Admitted(connection) => Some(connection),
+        match self.slots.get(number) {
+            Some(Slot::Admitted(connection)) => Some(connection),
+            _ => None,
         }
     }
 
@@ -57,13 +55,7 @@ impl Connections {
     pub fn is_free(&self, number: usize) -> bool
         ensures { result ≡ is_free self.now.slots number }
     {
-        if number >= CONNECTIONS {
-            return false;
-        }
-        match &self.slots[number] {
-            Slot::Closed => true,
-            Slot::Admitted(_) => false,
-        }
+        matches!(self.slots.get(number), Some(Slot::Closed))
     }
 
     // Keeps a connection under a number; one under a number past the last is closed.
