@@ -1,5 +1,5 @@
 -- The fields of an envelope by keyed words.
-use Rattle.std.specs.Prelude.{ℕ, cond, ◌||◌, List, [], ◌∷◌, Some, None, Ok, Err, vec_items, codes, Option, Result}
+use Rattle.std.specs.Prelude.{ℕ, cond, ◌||◌, List, [], ◌∷◌, Some, None, Ok, Err, Vec, vec_items, codes, Option, Result}
 use Rattle.words.specs.Cuts.{key_value_of}
 use Rattle.arguments.specs.Values.{number_argument, text_argument}
 use Rattle.arguments.specs.declared.fault.LineFault.{LineFault}
@@ -7,10 +7,10 @@ use Rattle.arguments.specs.declared.fault.LineFault.TheVariants.{WrongWords}
 use Rattle.envelope.specs.Results.{and_then}
 use Rattle.envelope.specs.declared.parts.Kind.{Kind}
 use Rattle.envelope.specs.declared.parts.Kind.TheVariants.{Message, Status}
-use Rattle.envelope_fields.specs.Plain.{Plain, content_kind, content_code}
+use Rattle.envelope_fields.specs.Plain.{Plain, plain_by}
+use Rattle.envelope_fields.specs.declared.fields.FieldsOf.{FieldsOf}
 use Rattle.keyed.specs.Keys.{has_key, find}
 use Rattle.keyed.specs.Shapes.{is_shape}
-use Rattle.keyed.specs.declared.fields.FieldText.{FieldText}
 
 -- the greatest number that a word's field takes, where its value is a number
 abbrev pub width_of : List ℕ → Option ℕ
@@ -91,18 +91,5 @@ abbrev pub fields_of : Kind → List (List ℕ) → Result Plain LineFault
 fields_of k ws = cond (is_shape k ws) (and_then (checked_words ws) (λ _. Ok (fields_for k ws))) (Err WrongWords)
 
 -- what the fields of a line hold
-abbrev pub field_text : FieldText → Plain
-field_text f = record {
-  kind = content_kind f.content;
-  code = content_code f.content;
-  todt = f.todt;
-  to = f.to;
-  ar = f.ar;
-  vb = f.vb;
-  on = vec_items f.on;
-  fr = vec_items f.fr;
-  ad = vec_items f.ad;
-  df = vec_items f.df;
-  ct = vec_items f.ct;
-  rest = vec_items f.rest;
-}
+abbrev pub field_text : {A : Type 0} → FieldsOf (Vec ℕ A) → Plain
+field_text f = plain_by vec_items f

@@ -2,7 +2,7 @@
 ghost use Rattle.std.specs.Prelude.{◌≡◌, Ok, vec_items};
 ghost use Rattle.words.specs.Cuts.{seen};
 ghost use Rattle.arguments.specs.Faults.{Gives};
-ghost use Rattle.envelope_fields.specs.Plain.{plain, content_kind, content_code};
+ghost use Rattle.envelope_fields.specs.Plain.{content_kind, content_code};
 ghost use Rattle.keyed.specs.Keys.{find};
 ghost use Rattle.keyed.specs.Fields.{number_for, text_for, code_for, kind_for, rest_key, fields_for, fields_of, field_text};
 
@@ -12,46 +12,11 @@ use crate::shape::is_shape;
 use arguments::fault::{CallFault, LineFault};
 use arguments::value::{read_number, read_text};
 use envelope::parts::Kind;
-use envelope_fields::fields::{Content, Fields};
+use envelope_fields::fields::{Content, FieldsOf};
 use std::alloc::Global;
 
-// The fields of a line, which owns their texts. (One struct for these and `Fields`, generic in its texts, would put the
-// parameter into each contract of the layers that only lend.)
-#[derive(Drop)]
-pub struct FieldText {
-    pub content: Content,
-    pub todt: u32,
-    pub to: u16,
-    pub ar: u8,
-    pub vb: u8,
-    pub on: Vec<u8>,
-    pub fr: Vec<u8>,
-    pub ad: Vec<u8>,
-    pub df: Vec<u8>,
-    pub ct: Vec<u8>,
-    pub rest: Vec<u8>,
-}
-
-impl FieldText {
-    // The fields to write, lent.
-    pub fn lent(&self) -> Fields<'_>
-        ensures { plain result ≡ field_text self.now }
-    {
-        Fields {
-            content: self.content,
-            todt: self.todt,
-            to: self.to,
-            ar: self.ar,
-            vb: self.vb,
-            on: self.on.as_slice(),
-            fr: self.fr.as_slice(),
-            ad: self.ad.as_slice(),
-            df: self.df.as_slice(),
-            ct: self.ct.as_slice(),
-            rest: self.rest.as_slice(),
-        }
-    }
-}
+// The fields of a line, which owns their texts.
+pub type FieldText = FieldsOf<Vec<u8>>;
 
 // The number under a key, or what stands for one that is left out.
 fn number_or(name: &[u8], words: &[&[u8]], most: u64, default: u64) -> u64
