@@ -1,8 +1,10 @@
 -- Words give back the bytes that they were made of.
-use Rattle.std.proofs.Common.{◌≡◌, ℕ, suc, ◌+◌, ◌-◌, ◌*◌, ◌/◌, ◌%◌, ◌<◌, ◌≤◌, List, [], ◌∷◌, ◌++◌, length, get_or, drop, sym, refl, ap, ◌∙◌, ⊎_elim, arith}
+use Rattle.std.proofs.Common.{◌≡◌, ℕ, ◌+◌, ◌-◌, ◌*◌, ◌/◌, ◌%◌, ◌<◌, ◌≤◌, List, [], ◌∷◌, ◌++◌, length, get_or, drop, map, replicate, append-nil, sym, refl, ap, ◌∙◌, arith}
 use lib.Arith.{digits_div, digits_mod}
-use Rattle.std.proofs.lemmas.List.{drop_more, drop_all, length-append, get_or_append_left, get_or-append_right}
-use Rattle.std.proofs.lemmas.Bool.{cases_lt}
+use Rattle.std.proofs.lemmas.List.{take_all, drop_more, drop_all, length-append}
+use Rattle.std.specs.List.{flat_map, range_with_len}
+use Rattle.std.proofs.lemmas.List.FromFn.{fill_by_all}
+use Rattle.text.specs.Padding.{padded}
 use Rattle.connection.specs.Words.{word_at, words_of, bytes_of_word, bytes_of}
 
 -- the digit at m of a number of which q stands above it and r below
@@ -84,25 +86,28 @@ eight : (w : ℕ) → length (bytes_of_word w) ≡ 8
 unfolding bytes_of_word
 eight w = refl
 
-pub bytes_length : (ws : List ℕ) → length (bytes_of ws) ≡ 8 * length ws
+bytes_length : (ws : List ℕ) → length (bytes_of ws) ≡ 8 * length ws
 unfolding bytes_of
 bytes_length [] = refl
 bytes_length (w ∷ ws) = let a = length-append (bytes_of_word w) (bytes_of ws) in let b = eight w in let c = bytes_length ws in omega arith
 
--- byte i is the byte i % 8 of the word i / 8
-pub byte_at : (ws : List ℕ) (i : ℕ) → i < 8 * length ws → get_or (bytes_of ws) i 0 ≡ get_or (bytes_of_word (get_or ws (i / 8) 0)) (i % 8) 0
+flat : (ws : List ℕ) → flat_map (λ x. x) (map bytes_of_word ws) ≡ bytes_of ws
 unfolding bytes_of
-byte_at [] i h = absurd (omega arith)
-byte_at (w ∷ ws) i h =
-    ⊎_elim
-    (λ l.
-    let q : i / 8 ≡ 0 = omega arith in
-    let r : i % 8 ≡ i = omega arith in
-    let e = eight w in
-    get_or_append_left (bytes_of_word w) (bytes_of ws) 0 i (omega arith) ∙ (λ j. get_or (bytes_of_word (get_or (w ∷ ws) (sym q j) 0)) (sym r j) 0))
-    (λ l.
-    let q : i / 8 ≡ suc ((i - 8) / 8) = omega arith in
-    let r : i % 8 ≡ (i - 8) % 8 = omega arith in
-    get_or-append_right (bytes_of_word w) (bytes_of ws) 8 i 0 (eight w) l ∙ byte_at ws (i - 8) (omega arith)
-    ∙ (λ j. get_or (bytes_of_word (get_or (w ∷ ws) (sym q j) 0)) (sym r j) 0))
-    (cases_lt i 8)
+flat [] = refl
+flat (w ∷ ws) = ap (λ t. bytes_of_word w ++ t) (flat ws)
+
+-- no room is left for zeros
+exactly : (n : ℕ) (bs : List ℕ) → length bs ≡ n → padded n bs ≡ bs
+unfolding padded
+exactly n bs e = let z : n - length bs ≡ 0 = omega arith in (λ i. take_all n bs (omega arith) i ++ replicate {A = ℕ} (z i) 0) ∙ append-nil bs
+
+-- the bytes of each word, end to end
+pub spread_is : (ws : List ℕ) (made : List (List ℕ)) → length ws ≡ 8 → length made ≡ 8 → ((k : ℕ) → k < 8 → get_or made k [] ≡ bytes_of_word (get_or ws k 0))
+    → padded 64 (flat_map (λ x. x) made) ≡ bytes_of ws
+spread_is ws made l m each =
+    let by : ℕ → List ℕ = λ k. bytes_of_word (get_or ws k 0) in
+    let made_is : made ≡ map by (range_with_len 0 8) = fill_by_all by made 8 [] m each in
+    let words_are : ws ≡ map (λ k. get_or ws k 0) (range_with_len 0 8) = fill_by_all (λ k. get_or ws k 0) ws 8 0 l (λ k h. refl) in
+    let same : made ≡ map bytes_of_word ws = made_is ∙ sym (ap (map bytes_of_word) words_are) in
+    let n = bytes_length ws in
+    ap (λ t. padded 64 (flat_map (λ x. x) t)) same ∙ ap (padded 64) (flat ws) ∙ exactly 64 (bytes_of ws) (omega arith)

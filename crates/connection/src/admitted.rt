@@ -7,7 +7,8 @@ use client_rows::client::{Client, ENDPOINT};
 use short_text::short_text::ShortText;
 use text::case::is_same_text;
 
-// What is kept of a client while its connection lasts: plain numbers, the address as eight words.
+// What is kept of a client while its connection lasts. A host keeps plain numbers alone, by a rule of the project: so the
+// address is eight words and a length.
 // It is neither copied nor let go: whoever has it hands it on or closes it.
 pub struct Admitted {
     neighbour: u8,

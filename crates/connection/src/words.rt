@@ -1,36 +1,15 @@
 // Sixty-four bytes as eight words of 64 bits, the low byte first.
 ghost use Rattle.std.specs.Prelude.{◌≡◌, ◌+◌, ◌≤◌};
-ghost use Rattle.connection.specs.Words.{word_at, words_of, bytes_of};
+ghost use Rattle.connection.specs.Words.{word_at, words_of, bytes_of_word, bytes_of};
+
+use std::array;
+use text::padding::pad;
 
 fn word_at(bytes: &[u8; 64], at: usize) -> u64
     requires { at + 8 ≤ 64 }
     ensures { result ≡ word_at bytes.now at }
 {
-    u64::from_le_bytes([
-        bytes[at],
-        bytes[at + 1],
-        bytes[at + 2],
-        bytes[at + 3],
-        bytes[at + 4],
-        bytes[at + 5],
-        bytes[at + 6],
-        bytes[at + 7],
-    ])
-}
-
-fn words_of(bytes: &[u8; 64]) -> [u64; 8]
-    ensures { result ≡ words_of bytes.now }
-{
-    [
-        word_at(bytes, 0),
-        word_at(bytes, 8),
-        word_at(bytes, 16),
-        word_at(bytes, 24),
-        word_at(bytes, 32),
-        word_at(bytes, 40),
-        word_at(bytes, 48),
-        word_at(bytes, 56),
-    ]
+    u64::from_le_bytes(array::from_fn(|i| bytes[at + i]))
 }
 
 // The words of the bytes, from which the bytes come back.
@@ -38,16 +17,18 @@ pub(crate) fn pack(bytes: &[u8; 64]) -> [u64; 8]
     ensures words { result ≡ words_of bytes.now }
     ensures back { bytes_of result ≡ bytes.now }
 {
-    words_of(bytes)
+    array::from_fn(|i| word_at(bytes, 8 * i))
+}
+
+fn bytes_of_word(word: u64) -> [u8; 8]
+    ensures { result ≡ bytes_of_word word }
+{
+    word.to_le_bytes()
 }
 
 // The bytes of the words.
 pub(crate) fn spread(words: &[u64; 8]) -> [u8; 64]
     ensures { result ≡ bytes_of words.now }
 {
-    let mut bytes = [0; 64];
-    for i in 0..64 {
-        bytes[i] = words[i / 8].to_le_bytes()[i % 8];
-    }
-    bytes
+    pad(words.map(bytes_of_word).as_flattened())
 }
