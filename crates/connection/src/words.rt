@@ -26,7 +26,7 @@ fn bytes_of_word(word: u64) -> [u8; 8]
     word.to_le_bytes()
 }
 
-// The bytes of the words.
+// The bytes of the words, which fill the array.
 pub(crate) fn spread(words: &[u64; 8]) -> [u8; 64]
     ensures { result ≡ bytes_of words.now }
 {
