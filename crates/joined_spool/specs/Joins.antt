@@ -1,11 +1,19 @@
 -- Two spools as one: the first's places, then the second's, none past 256.
-use Rattle.std.specs.Prelude.{◌≡◌, ℕ, ◌+◌, ◌-◌, ◌≤◌, min, cond, List, ◌++◌, length, take, nat_lt}
+use Rattle.std.specs.Prelude.{◌≡◌, ℕ, ◌+◌, ◌-◌, ◌≤◌, min, cond, List, ◌++◌, length, take, Ok, Err, Result, nat_lt}
 use Rattle.std.proofs.Common.{arith, ◌∙◌, ap}
 use Rattle.std.proofs.lemmas.List.{length-take, length-append}
+use Rattle.spool.specs.declared.fault.SpoolFault.{SpoolFault}
+use Rattle.spool.specs.declared.fault.SpoolFault.TheVariants.{NoPlace}
+use Rattle.joined_spool.specs.declared.parts.Part.{Part}
+use Rattle.joined_spool.specs.declared.parts.Part.TheVariants.{First, Second}
 use Rattle.spool.specs.Short.{Short, short_take, short_append}
 
 unfoldable pub joined : List (List ℕ) → List (List ℕ) → List (List ℕ)
 joined a b = take 256 (a ++ b)
+
+-- the part that place p falls in, and the place there, where the first part is a
+abbrev pub part_answer : ℕ → List (List ℕ) → Result Part SpoolFault
+part_answer p a = cond (nat_lt p (length a)) (Ok (First p)) (cond (nat_lt p 256) (Ok (Second (p - length a))) (Err NoPlace))
 
 -- what the part answers that the place falls in: the first at p, or the second at p less the first's places; `past` at
 -- a place past the last that a spool may have

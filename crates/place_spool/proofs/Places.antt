@@ -1,7 +1,8 @@
 -- What the places of a memory hold, before and after a cell is written over.
-use Rattle.std.proofs.Common.{◌≡◌, ℕ, ◌+◌, ◌-◌, ◌*◌, ◌/◌, ◌<◌, ◌≤◌, min, List, [], length, get_or, take, drop, set, sym, ap, ◌∙◌, inl, inr, arith}
+use Rattle.std.proofs.Common.{◌≡◌, ℕ, zero, suc, ◌+◌, ◌*◌, ◌/◌, ◌<◌, ◌≤◌, min, List, [], map, length, get_or, take, drop, set, refl, sym, ap, ◌∙◌, inl, inr, arith}
+use Rattle.std.specs.Simd.{first_chunks}
 use borrow.Rule.Slice.PartMut.{put_mid}
-use Rattle.std.proofs.lemmas.List.{ext_get_or, length-set, get_or-set_same, get_or-set_other, length-take-le, length-drop, length-append}
+use Rattle.std.proofs.lemmas.List.{ext_get_or, length-set, get_or-set_same, get_or-set_other, get_or-map, get_or-take, length-map, length-take, drop-drop, length-take-le, length-drop, length-append}
 use Rattle.std.proofs.lemmas.Bool.{cases_order, cases_eq}
 use Rattle.std.proofs.lemmas.List.FromFn.{get_or-map-range_with_len}
 use Rattle.std.proofs.lemmas.Slice.{drop-put_mid}
@@ -19,15 +20,34 @@ place_at m p h = get_or-map-range_with_len (λ p. cell_held (cell p m)) 0 (place
 pub cell_within : (m : List ℕ) (p : ℕ) → p < length (memory_held m) → 2050 * p + 2050 ≤ length m
 cell_within m p h = omega (arith, memory_count m)
 
--- what a place holds, by the part of the memory that the code lends
-pub part_at : (m : List ℕ) (p a : ℕ) → p < length (memory_held m) → a ≡ 2050 * p
-    → at p (memory_held m) ≡ cell_held (take ((a + 2050) - a) (drop a m))
+chunk_count : (k : ℕ) (m : List ℕ) → length (first_chunks 2050 k m) ≡ k
+chunk_count zero m = refl
+chunk_count (suc k) m = ap suc (chunk_count k (drop 2050 m))
+
+chunk_at : (k p : ℕ) (m : List ℕ) → p < k → get_or (first_chunks 2050 k m) p [] ≡ cell p m
 unfolding cell
-part_at m p a h e =
-    let k : 2050 ≡ (a + 2050) - a = omega arith in
-    place_at m p (omega (arith, memory_count m))
-    ∙ ap (λ b. cell_held (take 2050 (drop b m))) (sym e)
-    ∙ ap (λ n. cell_held (take n (drop a m))) k
+chunk_at zero p m h = absurd (omega arith)
+chunk_at (suc k) zero m h = refl
+chunk_at (suc k) (suc p) m h =
+    chunk_at k p (drop 2050 m) (omega arith)
+    ∙ ap (take 2050) (drop-drop (2050 * p) 2050 m ∙ ap (λ n. drop n m) (omega arith))
+
+-- the chunks of a memory, as many as it has places, are the cells of its places
+pub cells_count : (m : List ℕ) (full : List (List ℕ)) (n : ℕ) → full ≡ first_chunks 2050 (length m / 2050) m → n ≡ places_in m
+    → length (take n full) ≡ length (memory_held m)
+cells_count m full n f e =
+    omega (arith, length-take n full, ap length f, chunk_count (length m / 2050) m, memory_count m)
+
+pub cells_held : (m : List ℕ) (full : List (List ℕ)) (n : ℕ) → full ≡ first_chunks 2050 (length m / 2050) m → n ≡ places_in m
+    → map cell_held (take n full) ≡ memory_held m
+cells_held m full n f e =
+    let cm = memory_count m in
+    let cn = cells_count m full n f e in
+    ext_get_or [] (map cell_held (take n full)) (memory_held m) (omega (arith, length-map (take n full) cell_held))
+    (λ j b. get_or-map cell_held (take n full) j [] [] (omega (arith, length-map (take n full) cell_held))
+    ∙ ap cell_held (get_or-take n full j [] (omega (arith, length-map (take n full) cell_held)) ∙ ap (λ t. get_or t j []) f
+    ∙ chunk_at (length m / 2050) j m (omega (arith, length-map (take n full) cell_held)))
+    ∙ sym (place_at m j (omega (arith, length-map (take n full) cell_held))))
 
 cell_same : (m c : List ℕ) (p : ℕ) → 2050 * p + 2050 ≤ length m → length c ≡ 2050
     → cell p (put_mid (2050 * p) 2050 m c) ≡ c

@@ -4,20 +4,22 @@ ghost use Rattle.std.specs.Prelude.{◌≡◌, ◌≤◌, length};
 ghost use Rattle.spool.specs.Meaning.{over_front};
 ghost use Rattle.place_spool.specs.Cells.{cell_held, length_bytes, frame};
 
+// The bytes of a cell.
+pub(crate) const CELL: usize = 2050;
+
 // The two bytes of a length.
 pub(crate) fn length_bytes(length: usize) -> [u8; 2]
     requires { length ≤ 2048 }
     ensures { result ≡ length_bytes length }
 {
-    [(length % 256) as u8, (length / 256) as u8]
+    (length as u16).to_le_bytes()
 }
 
 // How many bytes a cell holds: never more than it has room for, whatever stands in it.
-pub(crate) fn held_length(cell: &[u8]) -> usize
-    requires { length cell.now ≡ 2050 }
+pub(crate) fn held_length(cell: &[u8; CELL]) -> usize
     ensures { result ≡ length (cell_held cell.now) }
 {
-    (cell[0] as usize + 256 * cell[1] as usize).min(2048)
+    (u16::from_le_bytes([cell[0], cell[1]]) as usize).min(2048)
 }
 
 // Writes the length and the bytes, and leaves what lies past them.
@@ -31,8 +33,8 @@ pub(crate) fn put(cell: &mut [u8], bytes: &[u8])
 }
 
 // Copies what the cell holds to the front of a buffer that is long enough.
-pub(crate) fn copy_to(cell: &[u8], buf: &mut [u8])
-    requires { (length cell.now ≡ 2050) × (length (cell_held cell.now) ≤ length buf.old) }
+pub(crate) fn copy_to(cell: &[u8; CELL], buf: &mut [u8])
+    requires { length (cell_held cell.now) ≤ length buf.old }
     ensures { buf.new ≡ over_front (cell_held cell.now) buf.old }
 {
     let length = held_length(cell);

@@ -11,6 +11,7 @@ ghost use Rattle.place_spool.specs.Memory.{places_in, memory_held, tail, wiped, 
 
 use spool::Spool;
 use spool::fault::SpoolFault;
+use spool::guards::{check_bytes, check_place, check_room};
 
 #[derive(Drop)]
 pub struct PlaceSpool<'a> {
@@ -38,11 +39,13 @@ impl<'a> Spool for PlaceSpool<'a> {
     ghost short = { λ s. memory_short s.memory.now };
 
     fn count(&self) -> usize {
-        memory::count_of(self.memory)
+        memory::cells(self.memory).len()
     }
 
     fn length(&self, place: usize) -> Result<usize, SpoolFault> {
-        memory::length_in(self.memory, place)
+        let cells = memory::cells(self.memory);
+        check_place(place, cells.len())?;
+        Ok(cell::held_length(&cells[place]))
     }
 
     fn store(&mut self, place: usize, bytes: &[u8]) -> Result<(), SpoolFault>
@@ -52,7 +55,10 @@ impl<'a> Spool for PlaceSpool<'a> {
         ensures tail { tail self.new.memory.now ≡ tail self.old.memory.now }
         ensures lender { self.new.memory.ghost_name ≡ self.old.memory.ghost_name }
     {
-        memory::store_in(self.memory, place, bytes)
+        check_place(place, self.count())?;
+        check_bytes(bytes)?;
+        memory::put_at(self.memory, place, bytes);
+        Ok(())
     }
 
     fn clear(&mut self, place: usize) -> Result<(), SpoolFault>
@@ -62,10 +68,17 @@ impl<'a> Spool for PlaceSpool<'a> {
         ensures tail { tail self.new.memory.now ≡ tail self.old.memory.now }
         ensures lender { self.new.memory.ghost_name ≡ self.old.memory.ghost_name }
     {
-        memory::clear_in(self.memory, place)
+        check_place(place, self.count())?;
+        memory::put_at(self.memory, place, &[]);
+        Ok(())
     }
 
     fn copy_out(&self, place: usize, buf: &mut [u8]) -> Result<usize, SpoolFault> {
-        memory::copy_in(self.memory, place, buf)
+        let cells = memory::cells(self.memory);
+        check_place(place, cells.len())?;
+        let length = cell::held_length(&cells[place]);
+        check_room(length, buf)?;
+        cell::copy_to(&cells[place], buf);
+        Ok(length)
     }
 }

@@ -3,6 +3,7 @@
 #![tactic(auto)]
 
 pub mod fault;
+pub mod guards;
 pub mod sizes;
 pub mod uses;
 

@@ -13,7 +13,7 @@ use crate::slot::Slot;
 use crate::slots::{copy_from, count_of, empty_at, fill_at, length_at};
 use spool::Spool;
 use spool::fault::SpoolFault;
-use spool::sizes::is_storable;
+use spool::guards::{check_bytes, check_place, check_room};
 
 #[derive(Drop)]
 pub struct Tray {
@@ -43,39 +43,27 @@ impl Spool for Tray {
     }
 
     fn length(&self, place: usize) -> Result<usize, SpoolFault> {
-        if place >= count_of(&self.slots) {
-            return Err(SpoolFault::NoPlace);
-        }
+        check_place(place, count_of(&self.slots))?;
         Ok(length_at(&self.slots, place))
     }
 
     fn store(&mut self, place: usize, bytes: &[u8]) -> Result<(), SpoolFault> {
-        if place >= count_of(&self.slots) {
-            return Err(SpoolFault::NoPlace);
-        }
-        if !is_storable(bytes.len()) {
-            return Err(SpoolFault::Unstorable);
-        }
+        check_place(place, count_of(&self.slots))?;
+        check_bytes(bytes)?;
         fill_at(&mut self.slots, place, bytes);
         Ok(())
     }
 
     fn clear(&mut self, place: usize) -> Result<(), SpoolFault> {
-        if place >= count_of(&self.slots) {
-            return Err(SpoolFault::NoPlace);
-        }
+        check_place(place, count_of(&self.slots))?;
         empty_at(&mut self.slots, place);
         Ok(())
     }
 
     fn copy_out(&self, place: usize, buf: &mut [u8]) -> Result<usize, SpoolFault> {
-        if place >= count_of(&self.slots) {
-            return Err(SpoolFault::NoPlace);
-        }
+        check_place(place, count_of(&self.slots))?;
         let length = length_at(&self.slots, place);
-        if length > buf.len() {
-            return Err(SpoolFault::ShortBuffer);
-        }
+        check_room(length, buf)?;
         copy_from(&self.slots, place, buf);
         Ok(length)
     }

@@ -1,4 +1,5 @@
 // The room of one place: 2,048 bytes, of which the first `len` are held.
+// A length stands beside them because nothing here allocates; a size as a parameter would have this one value.
 ghost use Rattle.std.specs.Prelude.{◌≡◌, ◌≤◌, [], length};
 ghost use Rattle.spool.specs.Meaning.{over_front};
 ghost use Rattle.tray.specs.Slots.{slot_held};

@@ -1,6 +1,6 @@
-use Rattle.std.proofs.Common.{arith}
+use Rattle.std.proofs.Common.{arith, rules}
 use Rattle.tray.proofs.Slotted.{slots_count}
 use Rattle.tray.proofs.slots.count_of.Goals as goal
 
 pub returns : goal.returns
-returns c = record { places = omega (arith, slots_count c.args.slots.now c.requires); slots = omega arith }
+returns c = record { places = omega (arith, slots_count c.args.slots.now (search rules)); slots = omega arith }
