@@ -3,9 +3,8 @@
 use Rattle.std.proofs.Common.{◌≡◌, ℕ, zero, suc, ◌+◌, ◌≤◌, Bool, true, false, cond, ◌&&◌, List, [], ◌∷◌, set, Some, None, Option, Result, sym, refl, ap, ◌∙◌, arith}
 use Rattle.std.proofs.lemmas.Bool.Decides.{nat_tests}
 use Rattle.ledger.specs.declared.fault.LedgerFault.{LedgerFault}
-use Rattle.ledger.specs.declared.search.Wanted.TheVariants.{Live, Filled, Spare}
 use Rattle.ledger.specs.Kinds.{Kind, Equivalence, live, has_key}
-use Rattle.ledger.specs.Searches.{first_from, passes, found, entered, or_else}
+use Rattle.ledger.specs.Searches.{first_from, live_with, filled_with, spare, found, entered, or_else}
 use Rattle.ledger.specs.Changes.{put, or_refused, added, rows_after_adding, rows_after_striking}
 use Rattle.ledger.specs.Promises.{FoundAgain, OthersAsBefore}
 
@@ -64,13 +63,13 @@ module _ {R K : Type 0} (m : Kind R K) (e : Equivalence m.same) where
 
   -- a live row that was added is the one that its key finds
   module _ (t : ℕ) (row : R) (rows : List R) (l : live m t row ≡ true) where
-    filled_too : (r : R) → passes m (Live t (m.key row)) r ≡ true → passes m (Filled (m.key row)) r ≡ true
+    filled_too : (r : R) → live_with m t (m.key row) r ≡ true → filled_with m (m.key row) r ≡ true
     filled_too r h = grind arith
 
-    self : passes m (Live t (m.key row)) row ≡ true
+    self : live_with m t (m.key row) row ≡ true
     self = rw (l, e.reflexive (m.key row))
 
-    by_place : (u : ℕ) (o s : Option ℕ) → first_from 0 (passes m (Filled (m.key row))) rows ≡ o → first_from 0 (passes m (Spare u)) rows ≡ s → first_from 0 (passes m (Live t (m.key row))) (put (or_else o s) row rows) ≡ or_else o s
+    by_place : (u : ℕ) (o s : Option ℕ) → first_from 0 (filled_with m (m.key row)) rows ≡ o → first_from 0 (spare m u) rows ≡ s → first_from 0 (live_with m t (m.key row)) (put (or_else o s) row rows) ≡ or_else o s
     by_place u (Some i) s eo es = put_first 0 i i _ _ row rows filled_too self (omega arith) eo
     by_place u None (Some i) eo es = put_spare 0 i i _ _ row rows (none_then 0 _ _ rows filled_too eo) self (omega arith) es
     by_place u None None eo es = none_then 0 _ _ rows filled_too eo
@@ -84,18 +83,18 @@ module _ {R K : Type 0} (m : Kind R K) (e : Equivalence m.same) where
   apart j k d r a = false_if _ (λ b. sym (e.transitive k (m.key r) j (e.symmetric (m.key r) k b) a) ∙ d)
 
   -- keys that are not the same find what they found, where a row that they do not find is put
-  module _ (u : ℕ) (j k : K) (row : R) (rows : List R) (d : m.same k j ≡ false) (aside : passes m (Live u k) row ≡ false) where
-    not_filled : (r : R) → passes m (Filled j) r ≡ true → passes m (Live u k) r ≡ false
+  module _ (u : ℕ) (j k : K) (row : R) (rows : List R) (d : m.same k j ≡ false) (aside : live_with m u k row ≡ false) where
+    not_filled : (r : R) → filled_with m j r ≡ true → live_with m u k r ≡ false
     not_filled r h = grind (arith, apart j k d r)
 
-    not_spare : (t : ℕ) → t ≤ u → (r : R) → passes m (Spare t) r ≡ true → passes m (Live u k) r ≡ false
+    not_spare : (t : ℕ) → t ≤ u → (r : R) → spare m t r ≡ true → live_with m u k r ≡ false
     not_spare t l r h = grind (arith, nat_tests)
 
     at_entered : (o : Option ℕ) → entered m j rows ≡ o → found m u k (put o row rows) ≡ found m u k rows
     at_entered (Some i) eo = put_aside 0 i i _ _ row rows not_filled aside (omega arith) eo
     at_entered None eo = refl
 
-    at_place : (t : ℕ) → t ≤ u → (o s : Option ℕ) → entered m j rows ≡ o → first_from 0 (passes m (Spare t)) rows ≡ s → found m u k (put (or_else o s) row rows) ≡ found m u k rows
+    at_place : (t : ℕ) → t ≤ u → (o s : Option ℕ) → entered m j rows ≡ o → first_from 0 (spare m t) rows ≡ s → found m u k (put (or_else o s) row rows) ≡ found m u k rows
     at_place t l (Some i) s eo es = at_entered (Some i) eo
     at_place t l None (Some i) eo es = put_aside 0 i i _ _ row rows (not_spare t l) aside (omega arith) es
     at_place t l None None eo es = refl
@@ -103,10 +102,10 @@ module _ {R K : Type 0} (m : Kind R K) (e : Equivalence m.same) where
   pub others_added : (time : ℕ) (row : R) (rows after : List R) → after ≡ rows_after_adding m time row rows → OthersAsBefore m time (m.key row) rows after
   others_added time row rows after r u k l d =
       let own : has_key m k row ≡ false = apart (m.key row) k d row (e.reflexive (m.key row)) in
-      let aside : passes m (Live u k) row ≡ false = grind arith in
+      let aside : live_with m u k row ≡ false = grind arith in
       ap (found m u k) r ∙ at_place u (m.key row) k row rows d aside time l _ _ refl refl
 
   pub others_struck : m.filled m.freed ≡ false → (key : K) (rows after : List R) → after ≡ rows_after_striking m key rows → OthersAsBefore m 0 key rows after
   others_struck f key rows after r u k l d =
-      let aside : passes m (Live u k) m.freed ≡ false = grind arith in
+      let aside : live_with m u k m.freed ≡ false = grind arith in
       ap (found m u k) r ∙ at_entered u key k m.freed rows d aside _ refl

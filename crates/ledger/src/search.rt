@@ -1,17 +1,9 @@
 // Looking for the first row of a sort.
-ghost use Rattle.std.specs.Prelude.{◌≡◌, ◌<◌, length, IfSome};
+ghost use Rattle.std.specs.Prelude.{◌≡◌, ◌<◌, length, IfSome, position};
 ghost use Rattle.ledger.specs.Kinds.{live};
-ghost use Rattle.ledger.specs.Searches.{passes, first_from};
+ghost use Rattle.ledger.specs.Searches.{live_with, filled_with, spare};
 
 use crate::row::Row;
-
-// The sort of row that is looked for: live at a time with a key, filled with a key, or not live at a time.
-#[derive(Drop)]
-pub(crate) enum Wanted<K> {
-    Live(u64, K),
-    Filled(K),
-    Spare(u64),
-}
 
 fn is_live<R: Row>(row: &R, time: u64) -> bool
     ensures { result ≡ live R.Row.kind time row.now }
@@ -19,24 +11,27 @@ fn is_live<R: Row>(row: &R, time: u64) -> bool
     row.is_filled() && time < row.end()
 }
 
-fn is_wanted<R: Row>(row: &R, wanted: &Wanted<R::Key>) -> bool
-    ensures { result ≡ passes R.Row.kind wanted.now row.now }
+// The first live row with that key.
+pub(crate) fn find<R: Row>(rows: &[R], time: u64, key: &R::Key) -> Option<usize>
+    ensures { result ≡ position (live_with R.Row.kind time key.now) rows.now }
 {
-    match wanted {
-        Wanted::Live(time, key) => is_live(row, *time) && row.has_key(key),
-        Wanted::Filled(key) => row.is_filled() && row.has_key(key),
-        Wanted::Spare(time) => !is_live(row, *time),
-    }
+    rows.iter()
+        .position(|row| is_live(row, time) && row.has_key(key))
 }
 
-pub(crate) fn first<R: Row>(rows: &[R], wanted: &Wanted<R::Key>) -> Option<usize>
-    ensures picks { result ≡ first_from 0 (passes R.Row.kind wanted.now) rows.now }
+// The first filled row with that key.
+pub(crate) fn find_entered<R: Row>(rows: &[R], key: &R::Key) -> Option<usize>
+    ensures picks { result ≡ position (filled_with R.Row.kind key.now) rows.now }
     ensures within { IfSome result (λ i. i < length rows.now) }
 {
-    for (i, row) in rows.iter().enumerate() {
-        if is_wanted(row, wanted) {
-            return Some(i);
-        }
-    }
-    None
+    rows.iter()
+        .position(|row| row.is_filled() && row.has_key(key))
+}
+
+// The first row that is not live.
+pub(crate) fn find_spare<R: Row>(rows: &[R], time: u64) -> Option<usize>
+    ensures picks { result ≡ position (spare R.Row.kind time) rows.now }
+    ensures within { IfSome result (λ i. i < length rows.now) }
+{
+    rows.iter().position(|row| !is_live(row, time))
 }

@@ -6,8 +6,8 @@ ghost use Rattle.ledger.specs.Changes.{added, rows_after_adding, struck, rows_af
 ghost use Rattle.ledger.specs.Promises.{FoundAlike, FoundAgain, OthersAsBefore};
 
 use crate::fault::LedgerFault;
-use crate::places;
 use crate::row::Row;
+use crate::{places, search};
 
 // A ledger is a table of rows in the caller's memory that remembers who was answered what, until when.
 // A row is live while it is filled and its end is later than the time given; it stays in its place until it is
@@ -31,7 +31,7 @@ impl<'a, R: Row> Ledger<'a, R> {
         ensures answer { result ≡ found R.Row.kind time key.now self.now.rows.now }
         ensures alike { FoundAlike R.Row.kind time key.now self.now.rows.now result }
     {
-        places::find(self.rows, time, key)
+        search::find(self.rows, time, key)
     }
 
     // The row at a place.
@@ -45,17 +45,15 @@ impl<'a, R: Row> Ledger<'a, R> {
     pub fn find_row(&self, time: u64, key: &R::Key) -> Option<R>
         ensures { result ≡ row_at (found R.Row.kind time key.now self.now.rows.now) self.now.rows.now }
     {
-        match self.find(time, key) {
-            Some(i) => self.row_at(i),
-            None => None,
-        }
+        let i = self.find(time, key)?;
+        self.row_at(i)
     }
 
     // Where `add` would write a row with that key; none where it would refuse.
     pub fn place_for(&self, time: u64, key: &R::Key) -> Option<usize>
         ensures { result ≡ place_for R.Row.kind time key.now self.now.rows.now }
     {
-        places::place_for(self.rows, time, *key)
+        places::place_for(self.rows, time, key)
     }
 
     // Writes the row over the first filled row with its key, else over the first row not live.
