@@ -15,6 +15,8 @@ pub const NODE: u8 = 2;
 const LAST_NEIGHBOUR: u8 = 254;
 
 // The neighbour that the client is, its class, and its address where it has one.
+// The class is a number, and a flag says whether there is an address: whoever fills a row may write anything there, and
+// `is_lawful` judges it.
 #[derive(Clone, Copy)]
 pub struct Client {
     pub neighbour: u8,
@@ -53,12 +55,9 @@ impl Client {
     pub fn new(neighbour: u8, class: u8, address: Option<&[u8]>) -> Option<Client>
         ensures { result ≡ client_of neighbour class address.entry }
     {
-        if class == NODE {
-            return Some(nameless(neighbour, class));
-        }
         match address {
-            Some(text) => at_address(neighbour, class, text),
-            None => Some(nameless(neighbour, class)),
+            Some(text) if class != NODE => at_address(neighbour, class, text),
+            _ => Some(nameless(neighbour, class)),
         }
     }
 

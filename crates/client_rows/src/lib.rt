@@ -3,5 +3,4 @@
 #![tactic(auto)]
 
 pub mod client;
-mod fingerprint;
 pub mod white_list;

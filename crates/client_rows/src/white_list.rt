@@ -6,7 +6,6 @@ ghost use Rattle.std.proofs.lemmas.Slice.Eq.{bytes_eq-Decides};
 ghost use Rattle.ledger.proofs.Equivalences.{by_image};
 
 use crate::client::{Client, nameless};
-use crate::fingerprint::is_same_fingerprint;
 use ledger::row::Row;
 
 // A client's row: the fingerprint of its certificate, the client, and the second at which the certificate ends.
@@ -57,6 +56,8 @@ impl Row for WhiteListRow {
 
     ghost kind = { white_list_kind };
 
+    ghost by_eq = { λ a b. refl };
+
     ghost alike = { by_image bytes_eq (λ f. f) bytes_eq-Decides };
 
     ghost empty = { refl };
@@ -71,10 +72,6 @@ impl Row for WhiteListRow {
 
     fn key(&self) -> [u8; 32] {
         self.fingerprint
-    }
-
-    fn has_key(&self, key: &[u8; 32]) -> bool {
-        is_same_fingerprint(&self.fingerprint, key)
     }
 
     fn freed() -> WhiteListRow {

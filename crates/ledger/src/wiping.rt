@@ -9,6 +9,9 @@ pub fn wipe<R: Row>(rows: &mut [R])
     ensures rows { rows.new ≡ replicate (length rows.old) R.Row.kind.freed }
     ensures empty { NothingFound R.Row.kind rows.new }
 {
-    // A closure, since the name of a function whose result is of a type parameter is not covered here.
-    rows.fill_with(|| R::freed());
+    rows.fill_with(
+        ||
+            ensures { result ≡ R.Row.kind.freed }
+        { R::freed() },
+    );
 }

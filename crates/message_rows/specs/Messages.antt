@@ -1,5 +1,6 @@
 -- Message rows: their key is FR and ON, and they end when the message expires.
-use Rattle.std.specs.Prelude.{◌≡◌, ℕ, ◌-◌, Bool, true, false, ◌&&◌, List, Some, None, Option}
+use Rattle.std.specs.Prelude.{◌≡◌, ℕ, Bool, true, false, ◌&&◌, List, Some, None, Option}
+use Rattle.envelope.specs.Life.{end_of_message}
 use Rattle.text.specs.Forms.{is_address, is_operation_number}
 use Rattle.ledger.specs.Kinds.{Kind}
 use Rattle.short_text.specs.ShortTexts.{kept_text, text_of, empty_text, holds_address, holds_operation_number, same_short_text}
@@ -17,7 +18,7 @@ message_key r = record { fr = r.fr; on = r.on }
 
 -- TO seconds before TODT
 abbrev pub message_end : MessageRow → ℕ
-message_end r = r.kept.todt - r.kept.to
+message_end r = end_of_message r.kept.todt r.kept.to
 
 abbrev pub same_message : MessageKey → MessageKey → Bool
 same_message a b = same_short_text a.fr b.fr && same_short_text a.on b.on

@@ -5,18 +5,20 @@ ghost use Rattle.ledger.proofs.Equivalences.{both, through};
 ghost use Rattle.short_text.specs.ShortTexts.{same_short_text};
 ghost use Rattle.envelope_rows.proofs.Alike.{short_text_alike};
 
+use envelope::life::end_of_message;
 use envelope_rows::kept::Kept;
 use ledger::row::Row;
 use short_text::short_text::ShortText;
 
 // Who sent the message, and its operation number; letter case does not count in either.
-#[derive(Clone, Copy)]
+#[derive(Clone, Copy, PartialEq, Eq)]
 pub struct MessageKey {
     pub fr: ShortText,
     pub on: ShortText,
 }
 
-// A message's row. Whoever fills it field by field may write anything: a row that breaks a form or a bound is not filled.
+// A message's row. Whoever fills it field by field may write anything: a row that breaks a form or a bound is not filled,
+// and `used` is a flag of its own, since no part has a value that means "none".
 #[derive(Clone, Copy)]
 pub struct MessageRow {
     pub used: bool,
@@ -63,6 +65,8 @@ impl Row for MessageRow {
 
     ghost kind = { messages };
 
+    ghost by_eq = { λ a b. refl };
+
     ghost alike = { both _ _ (through same_short_text (λ k. k.fr) short_text_alike) (through same_short_text (λ k. k.on) short_text_alike) };
 
     ghost empty = { refl };
@@ -72,7 +76,7 @@ impl Row for MessageRow {
     }
 
     fn end(&self) -> u64 {
-        (self.kept.todt as u64).saturating_sub(self.kept.to as u64)
+        end_of_message(self.kept.todt, self.kept.to)
     }
 
     fn key(&self) -> MessageKey {
@@ -80,10 +84,6 @@ impl Row for MessageRow {
             fr: self.fr,
             on: self.on,
         }
-    }
-
-    fn has_key(&self, key: &MessageKey) -> bool {
-        self.fr.is_same(&key.fr) && self.on.is_same(&key.on)
     }
 
     fn freed() -> MessageRow {

@@ -1,5 +1,8 @@
 -- Texts of up to 64 bytes in an array.
-use Rattle.std.specs.Prelude.{◌≡◌, ℕ, Bool, cond, ◌&&◌, List, length, take, replicate, Some, None, Option, nat_le}
+use Rattle.std.specs.Prelude.{◌≡◌, ℕ, Bool, cond, ◌&&◌, List, map, length, take, replicate, Some, None, Option, nat_le}
+use Rattle.std.specs.Cmp.{IsEquivalence, on_equiv}
+use Rattle.std.proofs.lemmas.Cmp.{nat_list_eq_equiv}
+use Rattle.std.specs.Char.{to_ascii_lowercase}
 use Rattle.text.specs.Forms.{is_address, is_operation_number, same_text}
 use Rattle.text.specs.Padding.{padded}
 use Rattle.short_text.specs.declared.short_text.ShortText.{ShortText}
@@ -26,6 +29,9 @@ holds_operation_number s = nat_le s.len 64 && is_operation_number (text_of s)
 -- equal but for the case of letters
 abbrev pub same_short_text : ShortText → ShortText → Bool
 same_short_text a b = same_text (text_of a) (text_of b)
+
+pub short_text_equiv : IsEquivalence same_short_text
+short_text_equiv = on_equiv (λ s. map to_ascii_lowercase (text_of s)) nat_list_eq_equiv
 
 -- s gives back the bytes that it was made of, and is lawful where they are
 pub record Holds (bs : List ℕ) (s : ShortText) : Type 0 where

@@ -1,12 +1,15 @@
 // A text of up to 64 bytes in an array, with its length.
 ghost use Rattle.std.specs.Prelude.{◌≡◌, take, IfSome};
-ghost use Rattle.short_text.specs.ShortTexts.{kept_text, text_of, empty_text, holds_address, holds_operation_number, same_short_text, Holds};
+ghost use Rattle.short_text.specs.ShortTexts.{kept_text, text_of, empty_text, holds_address, holds_operation_number, same_short_text, short_text_equiv, Holds};
+ghost use Rattle.std.specs.Cmp.{partial_equiv_from_equiv};
 
 use text::case::is_same_text;
 use text::forms::{is_address, is_operation_number};
 use text::padding::pad;
 
 // The bytes after the first `len` mean nothing; a length of more than 64 holds no lawful text.
+// Bytes with a length beside them, since it lies in rows that are plain memory: nothing here allocates, and whoever fills
+// a row may write any length.
 #[derive(Clone, Copy)]
 pub struct ShortText {
     pub bytes: [u8; 64],
@@ -71,11 +74,19 @@ impl ShortText {
     {
         self.len <= 64 && is_operation_number(self.text())
     }
+}
 
-    // Whether the two texts are the same but for the case of their letters.
-    pub fn is_same(&self, other: &ShortText) -> bool
-        ensures { result ≡ same_short_text self.now other.now }
-    {
+// Two texts are the same where they are but for the case of their letters.
+impl PartialEq for ShortText {
+    ghost eq = { same_short_text };
+
+    ghost laws = { partial_equiv_from_equiv short_text_equiv };
+
+    fn eq(&self, other: &ShortText) -> bool {
         is_same_text(self.text(), other.text())
     }
+}
+
+impl Eq for ShortText {
+    ghost laws = { short_text_equiv };
 }

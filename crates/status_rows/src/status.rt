@@ -1,10 +1,11 @@
 // Status rows: which statuses were passed on.
 ghost use Rattle.std.specs.Prelude.{◌≡◌, IfSome, nat_eq, refl};
-ghost use Rattle.status_rows.specs.Statuses.{statuses, status_row, status_key_of, StatusParts};
+ghost use Rattle.status_rows.specs.Statuses.{statuses, status_row, status_key_of, StatusParts, same_in_turn};
 ghost use Rattle.ledger.proofs.Equivalences.{both, through};
 ghost use Rattle.short_text.specs.ShortTexts.{same_short_text};
 ghost use Rattle.envelope_rows.proofs.Alike.{short_text_alike, number_alike};
 
+use envelope::life::end_of_status;
 use envelope::limits::is_code;
 use envelope::parts::Kind;
 use envelope_rows::kept::Kept;
@@ -12,11 +13,8 @@ use ledger::row::Row;
 use message_rows::message::MessageKey;
 use short_text::short_text::ShortText;
 
-// How many seconds a status's row is kept after its timeout: seven days.
-const STATUS_LIFE: u64 = 604_800;
-
 // Who sent the status, to whom it goes, its operation number and its code; letter case does not count in the texts.
-#[derive(Clone, Copy)]
+#[derive(Clone, Copy, PartialEq, Eq)]
 pub struct StatusKey {
     pub fr: ShortText,
     pub ad: ShortText,
@@ -25,6 +23,8 @@ pub struct StatusKey {
 }
 
 // A status's row. As with a message's, a row that breaks a form or a bound is not filled.
+// It stands beside MessageRow and is no instance of one type with it: what fills a row and when it ends differ too, and
+// the laws over runs read a message row's parts by their names.
 #[derive(Clone, Copy)]
 pub struct StatusRow {
     pub used: bool,
@@ -80,6 +80,8 @@ impl Row for StatusRow {
 
     ghost kind = { statuses };
 
+    ghost by_eq = { same_in_turn };
+
     ghost alike = { both _ _ (both _ _ (through same_short_text (λ k. k.fr) short_text_alike) (through same_short_text (λ k. k.ad) short_text_alike))
         (both _ _ (through same_short_text (λ k. k.on) short_text_alike) (through nat_eq (λ k. k.code) number_alike)) };
 
@@ -95,7 +97,7 @@ impl Row for StatusRow {
     }
 
     fn end(&self) -> u64 {
-        self.kept.todt as u64 + STATUS_LIFE
+        end_of_status(self.kept.todt)
     }
 
     fn key(&self) -> StatusKey {
@@ -105,11 +107,6 @@ impl Row for StatusRow {
             on: self.on,
             code: self.code,
         }
-    }
-
-    fn has_key(&self, key: &StatusKey) -> bool {
-        let addresses = self.fr.is_same(&key.fr) && self.ad.is_same(&key.ad);
-        addresses && self.on.is_same(&key.on) && self.code == key.code
     }
 
     fn freed() -> StatusRow {
