@@ -5,12 +5,14 @@ use Rattle.ledger.specs.Kinds.{Kind}
 use Rattle.ledger.specs.Searches.{first_from, live_with}
 use Rattle.ledger.specs.Promises.{NothingFound}
 
--- what calls made that each give v
-pub all_same : {F X : Type 0} (took : F → X → F → Type 0) (v : X) (f : F) (xs : List X) (last : F) → FoldsTo took f xs last
-    → ((f : F) (x : X) (g : F) → took f x g → x ≡ v) → xs ≡ replicate (length xs) v
-all_same took v f [] last r h = refl
-all_same took v f (x ∷ xs) last r h =
-    ap (λ y. y ∷ xs) (h f x r.0 r.1) ∙ ap (λ l. v ∷ l) (all_same took v r.0 xs last r.2 h)
+-- what n calls made that each give v
+pub all_same : {F X : Type 0} (took : F → X → F → Type 0) (v : X) (f : F) (xs : List X) (last : F) (n : ℕ) → FoldsTo took f xs last
+    → length xs ≡ n → ((f : F) (x : X) (g : F) → took f x g → x ≡ v) → xs ≡ replicate n v
+all_same took v f [] last zero r e h = refl
+all_same took v f [] last (suc n) r e h = absurd (omega arith)
+all_same took v f (x ∷ xs) last zero r e h = absurd (omega arith)
+all_same took v f (x ∷ xs) last (suc n) r e h =
+    ap (λ y. y ∷ xs) (h f x r.0 r.1) ∙ ap (λ l. v ∷ l) (all_same took v r.0 xs last n r.2 (omega arith) h)
 
 none_from : {R : Type 0} (n k : ℕ) (p : R → Bool) (v : R) → p v ≡ false → first_from n p (replicate k v) ≡ None
 none_from n zero p v e = refl

@@ -13,7 +13,7 @@ fn empty<S: Spool>(spool: &mut S, place: usize)
     let _ = spool.clear(place);
 }
 
-// Empties every place.
+// Empties every place, by its number: a spool has no list of its places to go over.
 pub fn clear_all<S: Spool>(spool: &mut S)
     ensures { S.held spool.new ≡ emptied (S.held spool.old) }
 {
