@@ -15,7 +15,7 @@ fn record_call(heap: Global, words: &[&[u8]]) -> Result<Call, CallFault>
     ensures { Gives asked result (record_call (seen words.now)) }
 {
     let [word] = words else {
-        return Err(CallFault::Line(LineFault::WrongWords));
+        return Err(LineFault::WrongWords.into());
     };
     let bytes = read_hex(heap, word)?;
     Ok(Call::ReadRecord(bytes))
@@ -32,7 +32,7 @@ pub(crate) fn envelope_call(heap: Global, words: &[&[u8]]) -> Result<Call, CallF
     ensures { Gives asked result (envelope_call (seen words.now)) }
 {
     let [kind, rest @ ..] = words else {
-        return Err(CallFault::Line(LineFault::WrongWords));
+        return Err(LineFault::WrongWords.into());
     };
     if is_word(kind, b"record") {
         record_call(heap, rest)
@@ -41,6 +41,6 @@ pub(crate) fn envelope_call(heap: Global, words: &[&[u8]]) -> Result<Call, CallF
     } else if is_word(kind, b"status") {
         fields_call(heap, Kind::Status, rest)
     } else {
-        Err(CallFault::Line(LineFault::BadWord))
+        Err(LineFault::BadWord.into())
     }
 }

@@ -12,7 +12,7 @@ pub(crate) fn way_call(heap: Global, words: &[&[u8]]) -> Result<Call, CallFault>
     ensures { Gives asked result (way_call (seen words.now)) }
 {
     let [target, dataflow] = words else {
-        return Err(CallFault::Line(LineFault::WrongWords));
+        return Err(LineFault::WrongWords.into());
     };
     let target = read_text(heap, target)?;
     let dataflow = read_text(heap, dataflow)?;
@@ -23,7 +23,7 @@ pub(crate) fn reason_call(heap: Global, words: &[&[u8]]) -> Result<Call, CallFau
     ensures { Gives asked result (reason_call (seen words.now)) }
 {
     let [record, sheet] = words else {
-        return Err(CallFault::Line(LineFault::WrongWords));
+        return Err(LineFault::WrongWords.into());
     };
     let record = read_hex(heap, record)?;
     let sheet = read_hex(heap, sheet)?;

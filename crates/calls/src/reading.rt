@@ -27,7 +27,7 @@ fn verb_call(heap: Global, verb: &[u8], args: &[&[u8]]) -> Result<Call, CallFaul
     } else if is_word(verb, b"reason") {
         reason_call(heap, args)
     } else {
-        Err(CallFault::Line(LineFault::UnknownVerb))
+        Err(LineFault::UnknownVerb.into())
     }
 }
 

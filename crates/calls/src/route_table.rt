@@ -13,7 +13,7 @@ pub(crate) fn route_call(heap: Global, words: &[&[u8]]) -> Result<Call, CallFaul
     ensures { Gives asked result (route_call (seen words.now)) }
 {
     let [address, dataflow, way] = words else {
-        return Err(CallFault::Line(LineFault::WrongWords));
+        return Err(LineFault::WrongWords.into());
     };
     let row = row_of(heap, address, dataflow, way)?;
     Ok(Call::AddRoute(row))
@@ -23,11 +23,11 @@ pub(crate) fn forget_call(words: &[&[u8]]) -> Result<Call, CallFault>
     ensures { Gives asked result (forget_call (seen words.now)) }
 {
     let [table] = words else {
-        return Err(CallFault::Line(LineFault::WrongWords));
+        return Err(LineFault::WrongWords.into());
     };
     if is_word(table, b"routes") {
         Ok(Call::ForgetRoutes)
     } else {
-        Err(CallFault::Line(LineFault::BadWord))
+        Err(LineFault::BadWord.into())
     }
 }

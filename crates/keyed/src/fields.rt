@@ -83,7 +83,7 @@ pub fn read_fields(heap: Global, kind: Kind, words: &[&[u8]]) -> Result<FieldTex
     ensures { Gives field_text result (fields_of kind (seen words.now)) }
 {
     if !is_shape(kind, words) {
-        return Err(CallFault::Line(LineFault::WrongWords));
+        return Err(LineFault::WrongWords.into());
     }
     check_words(heap, words)?;
     gather(heap, kind, words)

@@ -22,7 +22,7 @@ fn row_text(heap: Global, word: &[u8], most: usize) -> Result<Option<Vec<u8>>, C
     if text.len() <= most {
         Ok(Some(text))
     } else {
-        Err(CallFault::Line(LineFault::BadWord))
+        Err(LineFault::BadWord.into())
     }
 }
 
