@@ -3,10 +3,9 @@ use Rattle.std.proofs.Common.{◌≡◌, ℕ, ◌+◌, ◌-◌, ◌*◌, ◌^◌
 use Rattle.std.specs.Char.{is_ascii_digit}
 use Rattle.std.specs.Str.{all_ascii_digits}
 use Rattle.std.proofs.lemmas.Fmt.{decimal_nonempty, decimal_digit, first_decimal, digits_decimal, digits_value-decimal}
-use Rattle.std.proofs.lemmas.List.{at_drop_more, at_drop_all}
+use Rattle.std.proofs.lemmas.List.{at_drop_more}
 use Rattle.std.proofs.lemmas.Str.Parse.{IsNumeralModel, numerals_by_fold, tells_all_ascii_digits}
 use Rattle.std.proofs.lemmas.Bool.{cases_lt, lt-leb, le-leb, leb-false}
-use Rattle.std.proofs.lemmas.Bool.Decides.{nat_tests}
 use Rattle.digits.specs.Numbers.{value_after, value, number_of, digit_on}
 
 -- what the rest of the digits gives after n
@@ -39,16 +38,6 @@ read_more most n cs i o h e =
     at_drop_more (read_after most n) cs i 0 h
     ∙ step_at most (10 * n + (get_or cs i 0 - 48)) (drop (i + 1) cs) (is_ascii_digit (get_or cs i 0))
     ∙ ap (λ (p : Option ℕ). and_read most p (drop (i + 1) cs)) (sym e)
-
-pub read_all : (most n : ℕ) (cs : List ℕ) (i : ℕ) → n ≤ most → length cs ≤ i → read_after most n (drop i cs) ≡ Some n
-read_all most n cs i le h = at_drop_all (read_after most n) cs i h ∙ ap (λ (t : Bool). cond t (Some n) None) (le-leb n most le)
-
-pub read_start : (most : ℕ) (cs : List ℕ) → 0 < length cs → read_after most 0 cs ≡ number_of most cs
-read_start most [] h = absurd (omega arith)
-read_start most (c ∷ cs) h = sym (ap (λ (t : Bool). cond (t && (all_ascii_digits (c ∷ cs) && leb (value (c ∷ cs)) most)) (Some (value (c ∷ cs))) None) (le-leb 1 (length (c ∷ cs)) (omega arith)))
-
-pub digit_on_le : (most n c m : ℕ) → Some m ≡ digit_on most n c → m ≤ most
-digit_on_le most n c m e = grind (arith, nat_tests)
 
 own : IsNumeralModel (λ ds. all_ascii_digits ds ≡ true) value
 own = numerals_by_fold _ tells_all_ascii_digits value_after (search rules)

@@ -1,6 +1,6 @@
 -- Hex digits that are written, and read again.
-use Rattle.std.proofs.Common.{◌≡◌, ℕ, ◌+◌, ◌*◌, ◌/◌, ◌%◌, ◌<◌, ◌≤◌, true, ltb, List, [], ◌∷◌, ◌++◌, length, get_or, take, Some, sym, refl, ap, ◌∙◌, append_assoc, arith}
-use Rattle.std.proofs.lemmas.List.{take_more, take_all, take_at}
+use Rattle.std.proofs.Common.{◌≡◌, ℕ, ◌+◌, ◌*◌, ◌/◌, ◌%◌, ◌<◌, true, ltb, List, [], ◌∷◌, ◌++◌, length, get_or, take, Some, sym, refl, ap, ◌∙◌, append_assoc, arith}
+use Rattle.std.proofs.lemmas.List.{take_more}
 use Rattle.std.proofs.lemmas.Bool.{and_parts, ltb-true}
 use Rattle.std.proofs.lemmas.Bool.Decides.{nat_tests}
 use Rattle.digits.specs.Hexes.{nibble, paired, in_front, hex_of, hex_digit, hex_text, all_bytes}
@@ -14,13 +14,6 @@ pub text_more : (out xs : List ℕ) (i : ℕ) → i < length xs → (out ++ hex_
 text_more out xs i lt =
     append_assoc out (hex_text (take i xs)) (hex_text (get_or xs i 0 ∷ []))
     ∙ ap (λ (t : List ℕ). out ++ t) (sym (ap hex_text (take_more xs i 0 lt) ∙ text_append (take i xs) (get_or xs i 0 ∷ [])))
-
-pub text_all : (out xs : List ℕ) (i : ℕ) → length xs ≤ i → out ++ hex_text (take i xs) ≡ out ++ hex_text xs
-text_all out xs i le = ap (λ (t : List ℕ). out ++ hex_text t) (take_all i xs le)
-
--- what stood there before is still the first
-pub still_first : (old more : List ℕ) {after : List ℕ} (n : ℕ) → length old ≡ n → after ≡ old ++ more → take n after ≡ old
-still_first old more n e h = ap (λ (xs : List ℕ). take n xs) h ∙ take_at old more n e
 
 nibble_back : (n : ℕ) → n < 16 → nibble (hex_digit n) ≡ Some n
 nibble_back n h = grind (arith, nat_tests)

@@ -1,5 +1,5 @@
 -- The words of a line, cut off one by one.
-use Rattle.std.proofs.Common.{◌≡◌, ℕ, suc, ◌+◌, ◌<◌, Bool, true, false, cond, not, ◌||◌, eqb, List, [], ◌∷◌, ◌++◌, length, take, drop, sym, refl, ap, ◌∙◌, ⊎_elim, append_assoc, append-nil, one-add, arith, length-drop, length-take}
+use Rattle.std.proofs.Common.{◌≡◌, ℕ, suc, ◌+◌, ◌<◌, Bool, true, false, cond, not, ◌||◌, eqb, List, [], ◌∷◌, ◌++◌, length, take, drop, sym, refl, ap, ◌∙◌, ⊎_elim, append_assoc, append-nil, one-add, arith}
 use Rattle.std.specs.List.{prefix_len}
 use Rattle.std.proofs.lemmas.Bool.{both_ways, not-true, cases_Bool, eqb-true, eqb-false, or_parts}
 use Rattle.words.specs.Cuts.{is_gap, in_word, goes_on, onto, runs, from_word, first_word, after_word, is_comment, ends_words, uncommented, words_of}
@@ -87,18 +87,6 @@ module _ (bs w : List ℕ) (first : w ≡ first_word bs) where
     -- one word more
     pub words_more : words_of bs ≡ w ∷ words_of rest
     words_more = next some false (or_parts (eqb (length w) 0) (is_comment w) goes).1 ∙ ap (λ (r : List ℕ). w ∷ words_of r) (sym after)
-
-    pub rest_less : length rest < length bs
-    rest_less =
-        omega (
-          arith,
-          some,
-          ap length first,
-          ap length after,
-          length-take (prefix_len in_word (from_word bs)) (from_word bs),
-          length-drop (prefix_len in_word (from_word bs)) (from_word bs),
-          length-drop (prefix_len is_gap bs) bs,
-        )
 
 -- the words so far, when one more is cut off, and when there is none more
 pub so_far_more : (ws : List (List ℕ)) (w : List ℕ) (bs rest line : List ℕ) → words_of bs ≡ w ∷ words_of rest → ws ++ words_of bs ≡ words_of line → (ws ++ (w ∷ [])) ++ words_of rest ≡ words_of line
