@@ -3,3 +3,4 @@
 #![tactic(auto)]
 
 pub mod kept;
+pub mod row;

@@ -1,7 +1,9 @@
 -- Taking an envelope in: a row of its ledger, and the lowest free place.
-use Rattle.std.specs.Prelude.{ℕ, min, List, length, take, Some, None, Ok, Err, Option, Result}
+use Rattle.std.specs.Prelude.{◌≡◌, ℕ, min, List, length, take, Some, None, Ok, Err, Option, Result}
 use Rattle.ledger.specs.Kinds.{Kind}
-use Rattle.ledger.specs.Searches.{place_for}
+use Rattle.envelope.specs.Views.{Whole}
+use Rattle.envelope_rows.specs.declared.kept.Kept.{Kept}
+use Rattle.ledger.specs.Searches.{found, place_for, row_at}
 use Rattle.ledger.specs.Changes.{rows_after_adding}
 use Rattle.ledger.specs.declared.fault.LedgerFault.TheVariants.{NoRow}
 use Rattle.standing.specs.Frees.{first_free}
@@ -10,11 +12,14 @@ use Rattle.routing.specs.declared.row.Way.{Way}
 use Rattle.routing.specs.declared.row.Way.TheVariants.{Local, Neighbour}
 use Rattle.relay.specs.States.{State}
 use Rattle.relay.specs.Moves.{settled}
+use Rattle.relay.specs.Abouts.{about_of}
+use Rattle.arrival_checks.specs.Repeats.{kept_of}
+use Rattle.arrival_checks.specs.declared.ways.Ways.{Ways}
 use Rattle.arrival_checks.specs.declared.answer.Arrived.{Arrived}
 use Rattle.arrival_checks.specs.declared.answer.Arrived.TheVariants.{Entered, Waiting}
 use Rattle.arrival_checks.specs.declared.fault.ArrivalFault.{ArrivalFault}
 use Rattle.arrival_checks.specs.declared.fault.ArrivalFault.TheVariants.{Ledger, NoPlace}
-use Rattle.intake.specs.Steps.{Taken, taken, go_on}
+use Rattle.intake.specs.Steps.{Taken, taken, go_on, unless_found}
 
 -- the lowest free place of those that the spool has
 abbrev pub free_place : State → Option ℕ
@@ -37,3 +42,14 @@ unfoldable pub taking_in : {R K : Type 0} → Kind R K → State → R → Way �
 taking_in m s row on about bytes rows =
     go_on s rows (room_for m s (m.key row) rows) (λ place.
     taken (Ok (answer_for on place)) (settled s place on about bytes) (rows_after_adding m s.time row rows))
+
+-- an envelope by its key in its ledger: the row that it finds, its ways, and then it is taken in
+abbrev pub taken_by : {R K : Type 0} → Kind R K → (K → Kept → R) → (R → Kept) → State → K → Whole → Result Ways ArrivalFault → List ℕ → List R → Taken R
+taken_by m made kept s key w ways bytes rows =
+    unless_found s rows (row_at (found m s.time key rows) rows) kept w.fields (
+    go_on s rows ways (λ ways.
+    taking_in m s (made key (kept_of w.fields ways.on)) ways.on (about_of w ways.back) bytes rows))
+
+-- every call of it gives this
+abbrev pub Gives : {A : Type 0} → (A → Type 0) → A → Type 0
+Gives post x = (y : _) → post y → y ≡ x

@@ -2,14 +2,23 @@
 ghost use Rattle.std.specs.Prelude.{◌≡◌};
 ghost use Rattle.ledger.specs.Searches.{place_for};
 ghost use Rattle.ledger.specs.Changes.{or_refused};
-ghost use Rattle.intake.specs.TakingIn.{free_place, room_for, answer_for, taking_in};
+ghost use Rattle.std.specs.Prelude.{Result};
+ghost use Rattle.envelope.specs.Views.{held};
+ghost use Rattle.arrival_checks.specs.declared.ways.Ways.{Ways};
+ghost use Rattle.arrival_checks.specs.declared.fault.ArrivalFault.{ArrivalFault};
+ghost use Rattle.intake.specs.TakingIn.{free_place, room_for, answer_for, taking_in, taken_by, Gives};
 ghost use Rattle.intake.specs.Steps.{taken};
 
 use arrival_checks::answer::Arrived;
 use arrival_checks::fault::ArrivalFault;
+use arrival_checks::repeat::{answer_again, kept_of};
+use arrival_checks::ways::Ways;
+use envelope::parts::Envelope;
+use envelope_rows::row::EnvelopeRow;
 use ledger::fault::LedgerFault;
 use ledger::row::Row;
 use ledger::table::Ledger;
+use relay::about::about;
 use relay::relay::Relay;
 use routing::row::Way;
 use spool::Spool;
@@ -66,4 +75,26 @@ pub fn take_in<S: Spool, R: Row>(
     ledger.add(relay.time as u64, row)?;
     relay.settle(place, on, about, rec);
     Ok(answer_for(on, place))
+}
+
+// What comes of a live envelope with this key in its ledger. Its ways are asked for where no row has the key.
+pub fn take<S: Spool, R: EnvelopeRow, W: FnOnce() -> Result<Ways, ArrivalFault>>(
+    relay: &mut Relay<S>,
+    ledger: &mut Ledger<R>,
+    key: R::Key,
+    envelope: Envelope<'_>,
+    ways: W,
+    rec: &[u8],
+) -> Result<Arrived, ArrivalFault>
+    requires { W.IsAlwaysCallable ways }
+    ensures outcome { (w : Result Ways ArrivalFault) → Gives (W.post ways) w → taken result relay.new ledger.new.rows.now ≡ taken_by R.Row.kind R.made R.keeps relay.old key (held envelope.entry) w rec.now ledger.old.rows.now }
+    ensures lender { ledger.new.rows.ghost_name ≡ ledger.old.rows.ghost_name }
+{
+    let parts = envelope.parts();
+    if let Some(row) = ledger.find_row(relay.time as u64, &key) {
+        return answer_again(row.kept(), parts);
+    }
+    let ways = ways()?;
+    let row = R::of(key, kept_of(parts, ways.on));
+    take_in(relay, ledger, row, ways.on, about(envelope, ways.back), rec)
 }

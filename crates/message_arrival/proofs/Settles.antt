@@ -17,7 +17,8 @@ use Rattle.arrival_checks.specs.Repeats.{kept_of}
 use Rattle.arrival_checks.specs.Ways.{message_ways}
 use Rattle.intake.specs.Promises.{Settled}
 use Rattle.intake.proofs.Settled.{go_on_lem, unless_found_lem, taken_in}
-use Rattle.message_arrival.specs.Messages.{message_row_of, message_taken}
+use Rattle.message_rows.specs.Messages.{message_row_of}
+use Rattle.message_arrival.specs.Messages.{message_taken}
 
 pub message_settled : (s : State) (neighbour : ℕ) (f : Fields) (bytes : List ℕ) (routes : List RouteRow) (rows : List MessageRow) → storable (length bytes) ≡ true → Settled bytes s rows (message_taken s neighbour f bytes routes rows)
 unfolding message_taken

@@ -1,34 +1,20 @@
 // What comes of a message that is live.
 ghost use Rattle.std.specs.Prelude.{◌≡◌};
 ghost use Rattle.envelope.specs.Views.{view as fields_of};
-ghost use Rattle.message_arrival.specs.Messages.{message_row_of, message_taken};
+ghost use Rattle.message_arrival.specs.Messages.{message_taken};
 ghost use Rattle.intake.specs.Steps.{taken};
 
 use arrival_checks::answer::Arrived;
 use arrival_checks::fault::ArrivalFault;
 use arrival_checks::key::or_no_row;
-use arrival_checks::repeat::{answer_again, kept_of};
 use arrival_checks::ways::message_ways;
 use envelope::parts::{Envelope, Parts};
-use envelope_rows::kept::Kept;
-use intake::taking::take_in;
+use intake::taking::take;
 use ledger::table::Ledger;
 use message_rows::message::{MessageKey, MessageRow};
-use relay::about::about;
 use relay::relay::Relay;
 use routing::row::RouteRow;
 use spool::Spool;
-
-fn row_of(key: MessageKey, kept: Kept) -> MessageRow
-    ensures { result ≡ message_row_of key kept }
-{
-    MessageRow {
-        used: true,
-        fr: key.fr,
-        on: key.on,
-        kept,
-    }
-}
 
 pub fn take_message<S: Spool>(
     relay: &mut Relay<S>,
@@ -42,11 +28,6 @@ pub fn take_message<S: Spool>(
     ensures lender { messages.new.rows.ghost_name ≡ messages.old.rows.ghost_name }
 {
     let key = or_no_row(MessageKey::new(parts.fr.bytes, parts.on.bytes))?;
-    if let Some(row) = messages.find_row(relay.time as u64, &key) {
-        return answer_again(row.kept, parts);
-    }
-    let ways = message_ways(routes, neighbour, parts)?;
-    let row = row_of(key, kept_of(parts, ways.on));
-    let about = about(Envelope::Message(parts), ways.back);
-    take_in(relay, messages, row, ways.on, about, rec)
+    let ways = || message_ways(routes, neighbour, parts);
+    take(relay, messages, key, Envelope::Message(parts), ways, rec)
 }

@@ -38,8 +38,12 @@ of_texts None on = None
 abbrev pub message_key_of : List ℕ → List ℕ → Option MessageKey
 message_key_of fr on = of_texts (kept_text fr) (kept_text on)
 
+-- a row in use with that key
+abbrev pub message_row_of : MessageKey → Kept → MessageRow
+message_row_of key kept = record { used = true; fr = key.fr; on = key.on; kept = kept }
+
 abbrev pub message_in_use : Option MessageKey → Kept → Option MessageRow
-message_in_use (Some k) kept = Some (record { used = true; fr = k.fr; on = k.on; kept = kept })
+message_in_use (Some k) kept = Some (message_row_of k kept)
 message_in_use None kept = None
 
 -- a row in use of these parts, and none where a text is too long to keep

@@ -1,12 +1,13 @@
 // Message rows: which messages were answered, and with what first.
 ghost use Rattle.std.specs.Prelude.{◌≡◌, IfSome, refl};
-ghost use Rattle.message_rows.specs.Messages.{messages, message_row, message_key_of, MessageParts};
+ghost use Rattle.message_rows.specs.Messages.{messages, message_row_of, message_row, message_key_of, MessageParts};
 ghost use Rattle.ledger.proofs.Equivalences.{both, through};
 ghost use Rattle.short_text.specs.ShortTexts.{same_short_text};
 ghost use Rattle.envelope_rows.proofs.Alike.{short_text_alike};
 
 use envelope::life::end_of_message;
 use envelope_rows::kept::Kept;
+use envelope_rows::row::EnvelopeRow;
 use ledger::row::Row;
 use short_text::short_text::ShortText;
 
@@ -38,25 +39,14 @@ impl MessageKey {
     }
 }
 
-fn row_of(fr: &[u8], on: &[u8], kept: Kept) -> Option<MessageRow>
-    ensures { result ≡ message_row fr.now on.now kept }
-{
-    let key = MessageKey::new(fr, on)?;
-    Some(MessageRow {
-        used: true,
-        fr: key.fr,
-        on: key.on,
-        kept,
-    })
-}
-
 impl MessageRow {
     // A row in use; none where a text is longer than a row can keep.
     pub fn new(fr: &[u8], on: &[u8], kept: Kept) -> Option<MessageRow>
         ensures value { result ≡ message_row fr.now on.now kept }
         ensures parts { IfSome result (MessageParts fr.now on.now kept) }
     {
-        row_of(fr, on, kept)
+        let key = MessageKey::new(fr, on)?;
+        Some(MessageRow::of(key, kept))
     }
 }
 
@@ -93,5 +83,24 @@ impl Row for MessageRow {
             on: ShortText::empty(),
             kept: Kept::empty(),
         }
+    }
+}
+
+impl EnvelopeRow for MessageRow {
+    ghost made = { message_row_of };
+
+    ghost keeps = { λ r. r.kept };
+
+    fn of(key: MessageKey, kept: Kept) -> MessageRow {
+        MessageRow {
+            used: true,
+            fr: key.fr,
+            on: key.on,
+            kept,
+        }
+    }
+
+    fn kept(&self) -> Kept {
+        self.kept
     }
 }

@@ -15,7 +15,8 @@ use Rattle.arrival_checks.specs.declared.answer.Arrived.TheVariants.{Unwanted}
 use Rattle.intake.specs.Steps.{Taken, taken}
 use Rattle.intake.specs.Promises.{Settled}
 use Rattle.intake.proofs.Settled.{go_on_lem, unless_found_lem, taken_in}
-use Rattle.status_arrival.specs.Statuses.{status_row_of, is_unwanted, wanted_taken, status_taken}
+use Rattle.status_rows.specs.Statuses.{status_row_of}
+use Rattle.status_arrival.specs.Statuses.{is_unwanted, wanted_taken, status_taken}
 
 unless_unwanted : (b : Bool) (bytes : List ℕ) (s : State) (rows : List StatusRow) (next : Taken StatusRow) → Settled bytes s rows next → Settled bytes s rows (cond b (taken (Ok Unwanted) s rows) next)
 unless_unwanted true bytes s rows next h = (refl, refl)

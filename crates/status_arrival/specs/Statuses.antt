@@ -1,32 +1,21 @@
 -- What comes of a status that is live.
-use Rattle.std.specs.Prelude.{ℕ, Bool, true, cond, ◌&&◌, List, Ok, ◌==◌, nat_le}
+use Rattle.std.specs.Prelude.{ℕ, Bool, cond, ◌&&◌, List, Ok, ◌==◌, nat_le}
 use Rattle.envelope.specs.Views.{Fields, whole}
-use Rattle.ledger.specs.Searches.{found, row_at}
-use Rattle.status_rows.specs.Statuses.{statuses, status_key_of}
-use Rattle.envelope_rows.specs.declared.kept.Kept.{Kept}
-use Rattle.status_rows.specs.declared.status.StatusKey.{StatusKey}
+use Rattle.status_rows.specs.Statuses.{statuses, status_key_of, status_row_of}
 use Rattle.status_rows.specs.declared.status.StatusRow.{StatusRow}
 use Rattle.routing.specs.declared.row.RouteRow.{RouteRow}
 use Rattle.relay.specs.States.{State}
-use Rattle.relay.specs.Abouts.{about_of}
 use Rattle.arrival_checks.specs.declared.answer.Arrived.TheVariants.{Unwanted}
 use Rattle.arrival_checks.specs.Keys.{or_no_row}
-use Rattle.arrival_checks.specs.Repeats.{kept_of}
 use Rattle.arrival_checks.specs.Ways.{status_ways}
-use Rattle.intake.specs.Steps.{Taken, taken, go_on, unless_found}
-use Rattle.intake.specs.TakingIn.{taking_in}
-
--- a row in use with that key
-abbrev pub status_row_of : StatusKey → Kept → StatusRow
-status_row_of key kept = record { used = true; fr = key.fr; ad = key.ad; on = key.on; code = key.code; kept = kept }
+use Rattle.intake.specs.Steps.{Taken, taken, go_on}
+use Rattle.intake.specs.TakingIn.{taken_by}
 
 -- its key, the row that it finds, its ways, and then it is taken in
 abbrev pub wanted_taken : State → ℕ → ℕ → Fields → List ℕ → List RouteRow → List StatusRow → Taken StatusRow
 wanted_taken s neighbour code f bytes routes rows =
     go_on s rows (or_no_row (status_key_of f.fr.bytes f.ad.bytes f.on.bytes code)) (λ key.
-    unless_found s rows (row_at (found statuses s.time key rows) rows) (λ row. row.kept) f (
-    go_on s rows (status_ways routes neighbour f) (λ ways.
-    taking_in statuses s (status_row_of key (kept_of f ways.on)) ways.on (about_of (whole 2 code f) ways.back) bytes rows)))
+    taken_by statuses status_row_of (λ row. row.kept) s key (whole 2 code f) (status_ways routes neighbour f) bytes rows)
 
 -- a receipt, code 100 to 199, that nobody asked for
 abbrev pub is_unwanted : ℕ → Fields → Bool

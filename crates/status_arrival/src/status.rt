@@ -1,36 +1,20 @@
 // What comes of a status that is live.
 ghost use Rattle.std.specs.Prelude.{◌≡◌};
 ghost use Rattle.envelope.specs.Views.{view as fields_of};
-ghost use Rattle.status_arrival.specs.Statuses.{status_row_of, is_unwanted, wanted_taken, status_taken};
+ghost use Rattle.status_arrival.specs.Statuses.{is_unwanted, wanted_taken, status_taken};
 ghost use Rattle.intake.specs.Steps.{taken};
 
 use arrival_checks::answer::Arrived;
 use arrival_checks::fault::ArrivalFault;
 use arrival_checks::key::or_no_row;
-use arrival_checks::repeat::{answer_again, kept_of};
 use arrival_checks::ways::status_ways;
 use envelope::parts::{Envelope, Parts};
-use envelope_rows::kept::Kept;
-use intake::taking::take_in;
+use intake::taking::take;
 use ledger::table::Ledger;
-use relay::about::about;
 use relay::relay::Relay;
 use routing::row::RouteRow;
 use spool::Spool;
 use status_rows::status::{StatusKey, StatusRow};
-
-fn row_of(key: StatusKey, kept: Kept) -> StatusRow
-    ensures { result ≡ status_row_of key kept }
-{
-    StatusRow {
-        used: true,
-        fr: key.fr,
-        ad: key.ad,
-        on: key.on,
-        code: key.code,
-        kept,
-    }
-}
 
 fn take_wanted<S: Spool>(
     relay: &mut Relay<S>,
@@ -45,13 +29,8 @@ fn take_wanted<S: Spool>(
     ensures lender { statuses.new.rows.ghost_name ≡ statuses.old.rows.ghost_name }
 {
     let key = or_no_row(StatusKey::new(parts.fr.bytes, parts.ad.bytes, parts.on.bytes, code))?;
-    if let Some(row) = statuses.find_row(relay.time as u64, &key) {
-        return answer_again(row.kept, parts);
-    }
-    let ways = status_ways(routes, neighbour, parts)?;
-    let row = row_of(key, kept_of(parts, ways.on));
-    let about = about(Envelope::Status(code, parts), ways.back);
-    take_in(relay, statuses, row, ways.on, about, rec)
+    let ways = || status_ways(routes, neighbour, parts);
+    take(relay, statuses, key, Envelope::Status(code, parts), ways, rec)
 }
 
 // A receipt that nobody asked for.

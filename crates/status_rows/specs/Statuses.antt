@@ -49,8 +49,12 @@ with_address None ad code = None
 abbrev pub status_key_of : List ℕ → List ℕ → List ℕ → ℕ → Option StatusKey
 status_key_of fr ad on code = with_address (message_key_of fr on) (kept_text ad) code
 
+-- a row in use with that key
+abbrev pub status_row_of : StatusKey → Kept → StatusRow
+status_row_of key kept = record { used = true; fr = key.fr; ad = key.ad; on = key.on; code = key.code; kept = kept }
+
 abbrev pub status_in_use : Option StatusKey → Kept → Option StatusRow
-status_in_use (Some k) kept = Some (record { used = true; fr = k.fr; ad = k.ad; on = k.on; code = k.code; kept = kept })
+status_in_use (Some k) kept = Some (status_row_of k kept)
 status_in_use None kept = None
 
 -- a row in use of these parts, and none where a text is too long to keep

@@ -1,6 +1,6 @@
 // Status rows: which statuses were passed on.
 ghost use Rattle.std.specs.Prelude.{◌≡◌, IfSome, nat_eq, refl};
-ghost use Rattle.status_rows.specs.Statuses.{statuses, status_row, status_key_of, StatusParts, same_in_turn};
+ghost use Rattle.status_rows.specs.Statuses.{statuses, status_row_of, status_row, status_key_of, StatusParts, same_in_turn};
 ghost use Rattle.ledger.proofs.Equivalences.{both, through};
 ghost use Rattle.short_text.specs.ShortTexts.{same_short_text};
 ghost use Rattle.envelope_rows.proofs.Alike.{short_text_alike, number_alike};
@@ -9,6 +9,7 @@ use envelope::life::end_of_status;
 use envelope::limits::is_code;
 use envelope::parts::Kind;
 use envelope_rows::kept::Kept;
+use envelope_rows::row::EnvelopeRow;
 use ledger::row::Row;
 use message_rows::message::MessageKey;
 use short_text::short_text::ShortText;
@@ -51,27 +52,14 @@ impl StatusKey {
     }
 }
 
-fn row_of(fr: &[u8], ad: &[u8], on: &[u8], code: u16, kept: Kept) -> Option<StatusRow>
-    ensures { result ≡ status_row fr.now ad.now on.now code kept }
-{
-    let key = StatusKey::new(fr, ad, on, code)?;
-    Some(StatusRow {
-        used: true,
-        fr: key.fr,
-        ad: key.ad,
-        on: key.on,
-        code: key.code,
-        kept,
-    })
-}
-
 impl StatusRow {
     // A row in use; none where a text is longer than a row can keep.
     pub fn new(fr: &[u8], ad: &[u8], on: &[u8], code: u16, kept: Kept) -> Option<StatusRow>
         ensures value { result ≡ status_row fr.now ad.now on.now code kept }
         ensures parts { IfSome result (StatusParts fr.now ad.now on.now code kept) }
     {
-        row_of(fr, ad, on, code, kept)
+        let key = StatusKey::new(fr, ad, on, code)?;
+        Some(StatusRow::of(key, kept))
     }
 }
 
@@ -118,5 +106,26 @@ impl Row for StatusRow {
             code: 0,
             kept: Kept::empty(),
         }
+    }
+}
+
+impl EnvelopeRow for StatusRow {
+    ghost made = { status_row_of };
+
+    ghost keeps = { λ r. r.kept };
+
+    fn of(key: StatusKey, kept: Kept) -> StatusRow {
+        StatusRow {
+            used: true,
+            fr: key.fr,
+            ad: key.ad,
+            on: key.on,
+            code: key.code,
+            kept,
+        }
+    }
+
+    fn kept(&self) -> Kept {
+        self.kept
     }
 }
