@@ -2,8 +2,8 @@
 use Rattle.std.proofs.Common.{◌≡◌, ℕ, suc, ◌+◌, Bool, true, false, cond, leb, List, [], ◌∷◌, Some, None, Option, sym, refl, ap, ◌∙◌, ⊎_elim, arith}
 use Rattle.std.specs.List.{fold, reduce, filter}
 use Rattle.std.specs.Option.{option_map}
-use Rattle.std.proofs.lemmas.Bool.Decides.{leb_tells, nat_tests}
-use Rattle.text.proofs.Chains.{onto_first, fold_onto_first, kept, taken, pick_assoc}
+use Rattle.std.proofs.lemmas.Bool.Decides.{leb_tells}
+use Rattle.text.proofs.Chains.{onto_first, fold_onto_first, kept, taken, pick_assoc, chain_le, chain_gt}
 use Rattle.routing.specs.declared.row.RouteRow.{RouteRow}
 use Rattle.routing.specs.Rows.{fits, rank_of}
 use Rattle.routing.specs.Choice.{Candidate, preferred, best_from, place_of, best_row, better_of, way_at}
@@ -13,15 +13,9 @@ use Rattle.routing.specs.Best.{row_at}
 abbrev stays : RouteRow → RouteRow → Bool
 stays upper lower = leb (rank_of lower) (rank_of upper)
 
-both_stay : (m n k : ℕ) → leb n m ≡ true → leb k n ≡ true → leb k m ≡ true
-both_stay m n k a b = grind (arith, nat_tests)
-
-none_stays : (m n k : ℕ) → leb n m ≡ false → leb k n ≡ false → leb k m ≡ false
-none_stays m n k a b = grind (arith, nat_tests)
-
 from_the_first : (row : RouteRow) (rows : List RouteRow) → fold better_of row rows ≡ onto_first better_of row (reduce better_of rows)
 from_the_first = fold_onto_first better_of
-    (pick_assoc stays (λ a b c. both_stay (rank_of a) (rank_of b) (rank_of c)) (λ a b c. none_stays (rank_of a) (rank_of b) (rank_of c)))
+    (pick_assoc stays (λ a b c x y. chain_le (rank_of c) (rank_of b) (rank_of a) y x) (λ a b c x y. chain_gt (rank_of c) (rank_of b) (rank_of a) y x))
 
 -- of the rows that fit, the uppermost of those that rank highest
 abbrev pub row_of_best : List ℕ → List ℕ → List RouteRow → Option RouteRow

@@ -1,9 +1,8 @@
 -- The earliest place, as it is picked from those that have a time.
-use Rattle.std.proofs.Common.{◌≡◌, ℕ, ◌+◌, Bool, true, false, cond, leb, List, [], ◌∷◌, Some, None, Option, refl, ap, ◌∙◌, arith}
+use Rattle.std.proofs.Common.{◌≡◌, ℕ, ◌+◌, Bool, true, false, cond, leb, List, [], ◌∷◌, Some, None, Option, refl, ap, ◌∙◌}
 use Rattle.std.specs.List.{fold, reduce, filter_map, cons_option, enumerate_from}
 use Rattle.std.specs.Option.{option_map}
-use Rattle.std.proofs.lemmas.Bool.Decides.{nat_tests}
-use Rattle.text.proofs.Chains.{onto_first, fold_onto_first, pick_assoc}
+use Rattle.text.proofs.Chains.{onto_first, fold_onto_first, pick_assoc, chain_le, chain_gt}
 use Rattle.standing.specs.declared.standing.Standing.{Standing}
 use Rattle.searches.specs.declared.search.Found.{Found}
 use Rattle.searches.specs.Earliest.{earlier, earliest_by, sooner}
@@ -15,14 +14,8 @@ found_at i time = option_map (λ t. record { place = i; time = t }) time
 abbrev stays : Found → Found → Bool
 stays a b = leb a.time b.time
 
-both_stay : (m n k : ℕ) → leb m n ≡ true → leb n k ≡ true → leb m k ≡ true
-both_stay m n k a b = grind (arith, nat_tests)
-
-none_stays : (m n k : ℕ) → leb m n ≡ false → leb n k ≡ false → leb m k ≡ false
-none_stays m n k a b = grind (arith, nat_tests)
-
 from_the_first : (a : Found) (rest : List Found) → fold sooner a rest ≡ onto_first sooner a (reduce sooner rest)
-from_the_first = fold_onto_first sooner (pick_assoc stays (λ a b c. both_stay a.time b.time c.time) (λ a b c. none_stays a.time b.time c.time))
+from_the_first = fold_onto_first sooner (pick_assoc stays (λ a b c. chain_le a.time b.time c.time) (λ a b c. chain_gt a.time b.time c.time))
 
 some_cond : (b : Bool) (x y : Found) → Some (cond b x y) ≡ cond b (Some x) (Some y)
 some_cond true x y = refl

@@ -1,10 +1,11 @@
 -- What `reduce` gives over a known list, where its items are read as values.
-use Rattle.std.proofs.Common.{◌≡◌, Bool, true, false, cond, List, [], ◌∷◌, map, Some, None, Option, sym, refl, ap, ◌∙◌, subst}
+use Rattle.std.proofs.Common.{◌≡◌, ℕ, leb, arith, Bool, true, false, cond, List, [], ◌∷◌, map, Some, None, Option, sym, refl, ap, ◌∙◌, subst}
 use Rattle.std.specs.List.{fold, reduce, FoldsTo}
 use Rattle.std.specs.Option.{option_map}
 use Rattle.std.specs.Fn.{Called}
 use Rattle.std.specs.Iterator.{ReducesItems, FoldTurn}
 use Rattle.std.proofs.lemmas.Iterator.{YieldsList, items_from_drains}
+use Rattle.std.proofs.lemmas.Bool.Decides.{nat_tests}
 use denote.Param.Members.{Mut}
 
 module _ {A B F : Type 0} (v : A → B) {g : Mut F (A × (A × Unit {0})) A} (h : B → B → B) {f : F}
@@ -56,3 +57,10 @@ module _ {X : Type 0} (stays : X → X → Bool) where
 
     pub pick_assoc : (a b c : X) → pick (pick a b) c ≡ pick a (pick b c)
     pick_assoc a b c = at a b c (stays a b) (stays b c) refl refl
+
+-- numbers in order, and none in order
+pub chain_le : (m n k : ℕ) → leb m n ≡ true → leb n k ≡ true → leb m k ≡ true
+chain_le m n k a b = grind (arith, nat_tests)
+
+pub chain_gt : (m n k : ℕ) → leb m n ≡ false → leb n k ≡ false → leb m k ≡ false
+chain_gt m n k a b = grind (arith, nat_tests)
