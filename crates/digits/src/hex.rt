@@ -1,5 +1,5 @@
-// Bytes as hex digits, read and written. The library's `hex` tells faults that no answer tells, and makes a text of its own
-// of all that it writes.
+// Bytes as hex digits, read and written. The kit's `hex` would be one crate more to trust; it tells faults that no answer
+// tells, and makes a text of its own of all that it writes.
 ghost use Rattle.std.specs.Prelude.{◌≡◌, ℕ, ◌/◌, ◌%◌, ◌<◌, true, List, [], ◌∷◌, ◌++◌, take, IfOk, Some, vec_items, vec_len, MatchResult};
 ghost use Rattle.std.specs.Option.{option_map};
 ghost use Rattle.digits.specs.Hexes.{nibble, paired, hex_of, hex_digit, hex_text, all_bytes};
@@ -66,10 +66,9 @@ fn push_each(bytes: &[u8], out: &mut Vec<u8>) -> Result<(), AllocError>
     Ok(())
 }
 
-// Adds the bytes as hex digits in small letters; with no memory for them all, nothing.
-pub fn write_hex(bytes: &[u8], out: &mut Vec<u8>) -> Result<(), AllocError>
-    ensures text { out.new.items ≡ appended result (hex_text bytes.now) out.old.items }
-    ensures reads_back { (bs : List ℕ) → all_bytes bs ≡ true → hex_of (hex_text bs) ≡ Some bs }
+// Adds the bytes as hex digits, all or nothing.
+fn push_hex(bytes: &[u8], out: &mut Vec<u8>) -> Result<(), AllocError>
+    ensures { out.new.items ≡ appended result (hex_text bytes.now) out.old.items }
 {
     let before = out.len();
     let done = push_each(bytes, out);
@@ -77,4 +76,12 @@ pub fn write_hex(bytes: &[u8], out: &mut Vec<u8>) -> Result<(), AllocError>
         out.truncate(before);
     }
     done
+}
+
+// Adds the bytes as hex digits in small letters; with no memory for them all, nothing.
+pub fn write_hex(bytes: &[u8], out: &mut Vec<u8>) -> Result<(), AllocError>
+    ensures text { out.new.items ≡ appended result (hex_text bytes.now) out.old.items }
+    ensures reads_back { (bs : List ℕ) → all_bytes bs ≡ true → hex_of (hex_text bs) ≡ Some bs }
+{
+    push_hex(bytes, out)
 }

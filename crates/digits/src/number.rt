@@ -3,7 +3,6 @@ ghost use Rattle.std.specs.Prelude.{◌≡◌, ℕ, ◌≤◌, length, Some, dec
 ghost use Rattle.digits.specs.Numbers.{digit_on, number_of};
 ghost use Rattle.digits.specs.Appends.{appended};
 
-use itoa::Buffer;
 use std::alloc::AllocError;
 
 // The number with one digit more, where `b` is a digit and the number does not pass `most`.
@@ -35,12 +34,21 @@ pub fn number(text: &[u8], most: u64) -> Option<u64>
     Some(n)
 }
 
+// Adds the digits of the number; with no memory for them, nothing. (`write!` would tell want of memory as any `io::Error`, and
+// the kit's `itoa` would be one crate more to trust.)
+fn push_digits(n: u64, out: &mut Vec<u8>) -> Result<(), AllocError>
+    ensures { out.new.items ≡ appended result (decimal n) out.old.items }
+{
+    let heap = *out.allocator();
+    let text = n.to_string(heap)?;
+    out.extend_from_slice(text.as_bytes())
+}
+
 // Adds the digits of the number, no zero in front; with no memory for them, nothing.
 pub fn write_number(n: u64, out: &mut Vec<u8>) -> Result<(), AllocError>
     ensures text { out.new.items ≡ appended result (decimal n) out.old.items }
     ensures reads_back { (most : ℕ) → n ≤ most → number_of most (decimal n) ≡ Some n }
     ensures unpadded { slice_index (decimal n) 0 ≡ 48 → length (decimal n) ≡ 1 }
 {
-    let mut digits = Buffer::new();
-    out.extend_from_slice(digits.format(n).as_bytes())
+    push_digits(n, out)
 }
