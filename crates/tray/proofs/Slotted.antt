@@ -1,6 +1,6 @@
 -- What slots hold, by their number.
 use Rattle.std.proofs.Common.{◌≡◌, ℕ, ◌<◌, ◌≤◌, min, List, [], ◌++◌, map, length, get_or, take, drop, set, sym, ap, ◌∙◌, arith}
-use lib.Seq.{take-set-lt}
+use Rattle.std.proofs.Math.Seq.{take-set-lt}
 use Rattle.std.proofs.lemmas.List.{get_or-map, get_or-take, length-take, length-map, map-set, take_at, take-append-drop}
 use Rattle.spool.specs.Meaning.{at}
 use Rattle.tray.specs.declared.slot.Slot.{Slot}
