@@ -1,7 +1,7 @@
 -- What slots hold, by their number.
-use Rattle.std.proofs.Common.{◌≡◌, ℕ, ◌<◌, ◌≤◌, min, List, [], ◌++◌, map, length, get_or, take, drop, set, sym, ap, ◌∙◌, arith}
+use Rattle.std.proofs.Common.{◌≡◌, ℕ, ◌<◌, ◌≤◌, min, List, [], ◌++◌, map, length, get_or, take, set, ap, ◌∙◌, arith}
 use Rattle.std.proofs.Math.Seq.{take-set-lt}
-use Rattle.std.proofs.lemmas.List.{get_or-map, get_or-take, length-take, length-map, map-set, take_at, take-append-drop}
+use Rattle.std.proofs.lemmas.List.{get_or-map, get_or-take, length-take, length-map, map-set, take_at}
 use Rattle.spool.specs.Meaning.{at}
 use Rattle.tray.specs.declared.slot.Slot.{Slot}
 use Rattle.tray.specs.Slots.{slot_held, slots_held}
@@ -25,6 +25,3 @@ slots_set ss i s bs h e =
 -- bytes in front of others, with their number as the length
 pub put_held : (s : Slot) (bs rest : List ℕ) → length bs ≤ 2048 → s.len ≡ length bs → s.bytes ≡ bs ++ rest → slot_held s ≡ bs
 put_held s bs rest h l e = ap (take (min 2048 s.len)) e ∙ take_at bs rest (min 2048 s.len) (omega arith)
-
-pub take_of_length : {X : Type 0} (l : ℕ) (b : List X) (n : ℕ) → n ≡ length (take l b) → take n b ≡ take l b
-take_of_length l b n e = ap (take n) (sym (take-append-drop l b)) ∙ take_at (take l b) (drop l b) n (sym e)
