@@ -3,8 +3,5 @@ use Rattle.short_text.specs.ShortTexts.{Holds}
 use Rattle.short_text.proofs.Held.{kept_holds}
 use Rattle.short_text.proofs.short_text.ShortText.new.Goals as goal
 
-pub returns : goal.returns
-returns c = record {
-  value = c.keep.ensures;
-  holds = subst (λ o. IfSome o (Holds c.args.text.now)) (sym c.keep.ensures) (kept_holds c.args.text.now);
-}
+pub returns-clause-holds : goal.returns-clause-holds
+returns-clause-holds c = subst (λ o. IfSome o (Holds c.args.text.now)) (sym c.keep.ensures) (kept_holds c.args.text.now)
