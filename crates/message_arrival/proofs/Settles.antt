@@ -1,9 +1,5 @@
 -- A message that is taken in lies in the place told, and any other moves nothing.
-use mathlib.Core.Path.{◌≡◌}
-use mathlib.Core.Bool.{true}
-use mathlib.Core.List.{List}
-use Prim.Native.Nat.{ℕ}
-use lib.ListN.{length}
+use Rattle.std.proofs.Common.{◌≡◌, ℕ, true, List, length}
 use Rattle.envelope.specs.Views.{Fields, whole}
 use Rattle.ledger.specs.Searches.{found, row_at}
 use Rattle.message_rows.specs.Messages.{messages, message_key_of}

@@ -1,11 +1,11 @@
 // A text of up to 64 bytes in an array, with its length.
-ghost use Rattle.std.specs.Prelude.{◌≡◌, take, IfSome};
+ghost use Rattle.std.specs.Prelude.{◌≡◌, IfSome};
 ghost use Rattle.short_text.specs.ShortTexts.{kept_text, text_of, empty_text, holds_address, holds_operation_number, same_short_text, short_text_equiv, Holds};
 ghost use Rattle.std.specs.Cmp.{partial_equiv_from_equiv};
 
 use text::case::is_same_text;
 use text::forms::{is_address, is_operation_number};
-use text::padding::pad;
+use text::padding::{front, pad};
 
 // The bytes after the first `len` mean nothing; a length of more than 64 holds no lawful text.
 // Bytes with a length beside them, since it lies in rows that are plain memory: nothing here allocates, and whoever fills
@@ -14,14 +14,6 @@ use text::padding::pad;
 pub struct ShortText {
     pub bytes: [u8; 64],
     pub len: u8,
-}
-
-// The first `len` bytes, or all where there are fewer.
-fn front(bytes: &[u8; 64], len: u8) -> &[u8]
-    ensures { result.now ≡ take len bytes.now }
-{
-    let n = (len as usize).min(64);
-    &bytes[0..n]
 }
 
 fn keep(text: &[u8]) -> Option<ShortText>
@@ -60,7 +52,7 @@ impl ShortText {
     pub fn text(&self) -> &[u8]
         ensures { result.now ≡ text_of self.now }
     {
-        front(&self.bytes, self.len)
+        front(&self.bytes, self.len as usize)
     }
 
     pub fn is_address(&self) -> bool
