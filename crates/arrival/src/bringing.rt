@@ -13,7 +13,8 @@ use routing::row::RouteRow;
 use spool::Spool;
 use status_arrival::status::take_status;
 
-// `rec` is the record that the envelope was read from: it is what is stored.
+// `rec` is the record that the envelope was read from: it is what is stored. Neighbour, record and routes stay three parameters:
+// each function below looks at one or two of them, and a struct would be taken apart at once.
 pub fn bring<S: Spool>(
     relay: &mut Relay<S>,
     neighbour: u8,

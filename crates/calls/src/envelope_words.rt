@@ -1,3 +1,4 @@
+// Memory and words go separately through all of these, as everywhere: what allocates is handed the allocator first.
 // envelope record HEX, envelope message KEYED-WORDS, envelope status KEYED-WORDS
 ghost use Rattle.words.specs.Cuts.{seen};
 ghost use Rattle.arguments.specs.Faults.{Gives};

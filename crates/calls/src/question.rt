@@ -8,6 +8,7 @@ use arguments::fault::{CallFault, LineFault};
 use arguments::value::{read_hex, read_text};
 use std::alloc::Global;
 
+// The two stay apart: one function for both would take the two readers and the case as parameters, more than each body has.
 pub(crate) fn way_call(heap: Global, words: &[&[u8]]) -> Result<Call, CallFault>
     ensures { Gives asked result (way_call (seen words.now)) }
 {

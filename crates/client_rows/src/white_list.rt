@@ -8,7 +8,8 @@ ghost use Rattle.ledger.proofs.Equivalences.{by_image};
 use crate::client::{Client, nameless};
 use ledger::row::Row;
 
-// A client's row: the fingerprint of its certificate, the client, and the second at which the certificate ends.
+// A client's row: the fingerprint of its certificate, the client, and the second at which the certificate ends. As with the
+// other rows, `used` is a flag of its own in memory that anybody may fill.
 #[derive(Clone, Copy)]
 pub struct WhiteListRow {
     pub used: bool,

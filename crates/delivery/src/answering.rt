@@ -37,7 +37,8 @@ fn task_after(standing: Standing, number: u32, reply: Reply) -> Option<Task>
     Some(Task { about, act })
 }
 
-// What became of the envelope that is out at a place under a try number. An answer to any other try is refused.
+// What became of the envelope that is out at a place under a try number. An answer to any other try is refused. (A struct of
+// place and number would be taken apart at once, here and in reading: the table is asked by the one and compared by the other.)
 pub fn answer<S: Spool>(
     relay: &mut Relay<S>,
     clock: u32,
@@ -49,7 +50,8 @@ pub fn answer<S: Spool>(
     ensures state { relay.new ≡ answer_state relay.old clock place number outcome }
 {
     relay.tick(clock);
-    let task = task_after(relay.table.at(place), number, reply_of(outcome))
-        .ok_or(AnswerFault::NotOut)?;
+    let task = task_after(relay.table.at(place), number, reply_of(outcome)).ok_or(
+        AnswerFault::NotOut,
+    )?;
     Ok(perform(relay, place, task))
 }

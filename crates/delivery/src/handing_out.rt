@@ -16,6 +16,7 @@ pub struct HandOut {
     pub neighbour: u8,
 }
 
+// 0 where nothing waits. An `Option` would need a branch that gives up, which no run takes.
 fn hop_of(standing: Standing) -> u8
     ensures { result ≡ hop_of standing }
 {

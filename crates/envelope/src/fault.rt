@@ -3,7 +3,8 @@ ghost use Rattle.std.specs.Prelude.{◌≡◌};
 ghost use Rattle.envelope.specs.Refusals.{record_refusal};
 ghost use Rattle.envelope.specs.declared.fault.RecordFault.TheVariants.{Field};
 
-// A broken field: its number, and the offset where it starts.
+// A broken field: its number, and the offset where it starts. The number stays one: it is how refusals name a field, and an
+// enum would be turned back into it at every use.
 #[derive(Clone, Copy, PartialEq, Eq, Debug)]
 pub struct FieldFault {
     pub field: u8,

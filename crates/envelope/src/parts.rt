@@ -13,6 +13,7 @@ pub struct Part<'a> {
     pub at: usize,
 }
 
+// What an envelope's record says but for its kind and code, which the envelope's case tells. AR and VB are the record's numbers.
 #[derive(Clone, Copy)]
 pub struct Parts<'a> {
     pub todt: u32,

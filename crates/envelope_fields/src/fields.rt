@@ -7,7 +7,7 @@ ghost use Rattle.envelope_fields.specs.Plain.{plain, plain_by, plain_of, content
 use envelope::parts::{Envelope, Kind};
 use std::convert::AsSlice;
 
-// A status carries its code.
+// A status carries its code. An `Option` of the code would be no plainer: `None` would not say that it is a message.
 #[derive(Clone, Copy, PartialEq, Eq, Debug)]
 pub enum Content {
     Message,
@@ -36,6 +36,7 @@ impl Content {
 }
 
 // What is to be written as a record: its length and the lengths of its parts follow. The texts are lent or owned.
+// AR and VB stay numbers: a caller may bring one past its bound, and is told so.
 #[derive(Clone, Copy, Drop)]
 pub struct FieldsOf<T> {
     pub content: Content,

@@ -36,6 +36,7 @@ fn put_texts(out: &mut Vec<u8>, parts: Parts<'_>) -> Result<(), AllocError>
     put_keyed_text(out, b" ct=", parts.ct.bytes)
 }
 
+// The two kinds stay apart: a status has its code between its numbers and its texts, and each names its last text otherwise.
 fn put_message(out: &mut Vec<u8>, parts: Parts<'_>) -> Result<(), AllocError>
     ensures { OnOk result (out.new.items ≡ grouped out.old.items (message_groups (view parts.entry))) }
 {

@@ -1,4 +1,5 @@
-// Unsigned little-endian integers.
+// Unsigned little-endian integers. The two widths stay two functions of a line each: one for both would need a trait that
+// says of each width what the bytes mean.
 ghost use Rattle.std.specs.Prelude.{◌≡◌, ◌+◌, ◌≤◌, length};
 ghost use Rattle.envelope.specs.Integers.{u16_at, u32_at};
 

@@ -13,6 +13,7 @@ fn serve<B: BufRead>(rt: &HostRuntime, input: &mut B) -> io::Result<()> {
     let mut service = Service::new(heap);
     let mut line = Vec::new(heap);
     let mut out = Vec::new(heap);
+    // A loop has a bound: the range counts nothing.
     for _ in 0..u64::MAX {
         out.clear();
         match next_line(input, &mut line)? {

@@ -12,6 +12,8 @@ use crate::{places, search};
 // A ledger is a table of rows in the caller's memory that remembers who was answered what, until when.
 // A row is live while it is filled and its end is later than the time given; it stays in its place until it is
 // written over or struck, so that an ended row costs nothing but its place.
+// Each function that takes a ledger promises `lender`, since it could be given another slice in the place of its own, and
+// no type says that it was not.
 #[derive(Drop)]
 pub struct Ledger<'a, R> {
     rows: &'a mut [R],

@@ -19,6 +19,7 @@ pub struct Given {
     pub length: usize,
 }
 
+// A message where the place is free. An `Option` would need a branch that gives up, which no run takes.
 fn kind_at(standing: Standing) -> Kind
     ensures { result ≡ kind_at standing }
 {

@@ -14,7 +14,7 @@ use short_text::short_text::ShortText;
 use spool::fault::SpoolFault;
 use sweeping::sweep::Swept;
 
-// What is kept of a client that was admitted.
+// What is kept of a client that was admitted: plain numbers, as in the connection; the class is the number in its row.
 #[derive(Clone, Copy)]
 pub struct Admission {
     pub neighbour: u8,

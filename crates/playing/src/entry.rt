@@ -15,7 +15,8 @@ use spool::Spool;
 // No record is longer, and so no call needs a longer buffer.
 pub const PAGE: usize = 2048;
 
-// What a call brought and gave back: a record that it gave stands at the front of the page.
+// What a call brought and gave back: a record that it gave stands at the front of the page, an array, since nothing here
+// allocates.
 #[derive(Clone, Copy)]
 pub struct Entry<'a> {
     pub call: Call<'a>,

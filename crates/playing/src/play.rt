@@ -44,6 +44,7 @@ pub fn play<'a, 'm, S: Spool>(
         });
     }
     let mut player = Player::new(address, spool, messages, statuses);
+    // By index into the log, since of a slice that is lent for writing through a `zip` nothing is known afterwards.
     for (i, call) in calls.iter().enumerate() {
         enter(&mut player, *call, &mut log[i]);
     }

@@ -1,6 +1,7 @@
 // A row of a route table: plain bytes and numbers, lawful or not.
 
-// Where an envelope goes next: to a neighbour, 0 to 254, or to the local office.
+// Where an envelope goes next: to a neighbour, 0 to 254, or to the local office. An `Option` of the number would be no plainer:
+// `None` would not say that it stays here, and many a function gives a way or none.
 #[derive(Clone, Copy, PartialEq, Eq, Debug)]
 pub enum Way {
     Local,

@@ -22,6 +22,7 @@ impl TextFault {
     }
 }
 
+// One function for both checks would take the test and the fault as parameters, which is more than each body has.
 pub fn check_address(text: &[u8]) -> Result<(), TextFault>
     ensures { result ≡ checked_address text.now }
 {
