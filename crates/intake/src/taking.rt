@@ -1,19 +1,16 @@
 // Taking an envelope in: a row of its ledger, and the lowest free place.
 ghost use Rattle.std.specs.Prelude.{◌≡◌};
-ghost use Rattle.ledger.specs.Searches.{place_for};
+ghost use Rattle.ledger.specs.Searches.{found, place_for, row_at};
 ghost use Rattle.ledger.specs.Changes.{or_refused};
-ghost use Rattle.std.specs.Prelude.{Result};
-ghost use Rattle.envelope.specs.Views.{held};
-ghost use Rattle.arrival_checks.specs.declared.ways.Ways.{Ways};
-ghost use Rattle.arrival_checks.specs.declared.fault.ArrivalFault.{ArrivalFault};
-ghost use Rattle.intake.specs.TakingIn.{free_place, room_for, answer_for, taking_in, taken_by, Gives};
+ghost use Rattle.envelope.specs.Views.{held, view};
+ghost use Rattle.intake.specs.TakingIn.{free_place, room_for, answer_for, taking_in, answer_before, taken_as};
 ghost use Rattle.intake.specs.Steps.{taken};
 
 use arrival_checks::answer::Arrived;
 use arrival_checks::fault::ArrivalFault;
 use arrival_checks::repeat::{answer_again, kept_of};
 use arrival_checks::ways::Ways;
-use envelope::parts::Envelope;
+use envelope::parts::{Envelope, Parts};
 use envelope_rows::row::EnvelopeRow;
 use ledger::fault::LedgerFault;
 use ledger::row::Row;
@@ -77,24 +74,31 @@ pub fn take_in<S: Spool, R: Row>(
     Ok(answer_for(on, place))
 }
 
-// What comes of a live envelope with this key in its ledger. Its ways are asked for where no row has the key.
-pub fn take<S: Spool, R: EnvelopeRow, W: FnOnce() -> Result<Ways, ArrivalFault>>(
+// What is answered to an envelope that came before: a live row of its ledger has its key.
+pub fn answer_before<R: EnvelopeRow>(
+    ledger: &Ledger<R>,
+    time: u32,
+    key: &R::Key,
+    parts: Parts<'_>,
+) -> Option<Result<Arrived, ArrivalFault>>
+    ensures { result ≡ answer_before (row_at (found R.Row.kind time key.now ledger.now.rows.now) ledger.now.rows.now) R.keeps (view parts.entry) }
+{
+    let row = ledger.find_row(time as u64, key)?;
+    Some(answer_again(row.kept(), parts))
+}
+
+// Takes in an envelope that did not come before, by a row with its key.
+pub fn take_new<S: Spool, R: EnvelopeRow>(
     relay: &mut Relay<S>,
     ledger: &mut Ledger<R>,
     key: R::Key,
     envelope: Envelope<'_>,
-    ways: W,
+    ways: Ways,
     rec: &[u8],
 ) -> Result<Arrived, ArrivalFault>
-    requires { W.IsAlwaysCallable ways }
-    ensures outcome { (w : Result Ways ArrivalFault) → Gives (W.post ways) w → taken result relay.new ledger.new.rows.now ≡ taken_by R.Row.kind R.made R.keeps relay.old key (held envelope.entry) w rec.now ledger.old.rows.now }
+    ensures outcome { taken result relay.new ledger.new.rows.now ≡ taken_as R.Row.kind R.made relay.old key (held envelope.entry) ways rec.now ledger.old.rows.now }
     ensures lender { ledger.new.rows.ghost_name ≡ ledger.old.rows.ghost_name }
 {
-    let parts = envelope.parts();
-    if let Some(row) = ledger.find_row(relay.time as u64, &key) {
-        return answer_again(row.kept(), parts);
-    }
-    let ways = ways()?;
-    let row = R::of(key, kept_of(parts, ways.on));
+    let row = R::of(key, kept_of(envelope.parts(), ways.on));
     take_in(relay, ledger, row, ways.on, about(envelope, ways.back), rec)
 }

@@ -9,13 +9,14 @@ use arrival_checks::fault::ArrivalFault;
 use arrival_checks::key::or_no_row;
 use arrival_checks::ways::message_ways;
 use envelope::parts::{Envelope, Parts};
-use intake::taking::take;
+use intake::taking::{answer_before, take_new};
 use ledger::table::Ledger;
 use message_rows::message::{MessageKey, MessageRow};
 use relay::relay::Relay;
 use routing::row::RouteRow;
 use spool::Spool;
 
+#[tactic(auto, unfolding(crate::specs::Messages::message_taken))]
 pub fn take_message<S: Spool>(
     relay: &mut Relay<S>,
     neighbour: u8,
@@ -28,6 +29,9 @@ pub fn take_message<S: Spool>(
     ensures lender { messages.new.rows.ghost_name ≡ messages.old.rows.ghost_name }
 {
     let key = or_no_row(MessageKey::new(parts.fr.bytes, parts.on.bytes))?;
-    let ways = || message_ways(routes, neighbour, parts);
-    take(relay, messages, key, Envelope::Message(parts), ways, rec)
+    if let Some(answer) = answer_before(messages, relay.time, &key, parts) {
+        return answer;
+    }
+    let ways = message_ways(routes, neighbour, parts)?;
+    take_new(relay, messages, key, Envelope::Message(parts), ways, rec)
 }

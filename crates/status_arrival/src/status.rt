@@ -9,7 +9,7 @@ use arrival_checks::fault::ArrivalFault;
 use arrival_checks::key::or_no_row;
 use arrival_checks::ways::status_ways;
 use envelope::parts::{Envelope, Parts};
-use intake::taking::take;
+use intake::taking::{answer_before, take_new};
 use ledger::table::Ledger;
 use relay::relay::Relay;
 use routing::row::RouteRow;
@@ -29,8 +29,18 @@ fn take_wanted<S: Spool>(
     ensures lender { statuses.new.rows.ghost_name ≡ statuses.old.rows.ghost_name }
 {
     let key = or_no_row(StatusKey::new(parts.fr.bytes, parts.ad.bytes, parts.on.bytes, code))?;
-    let ways = || status_ways(routes, neighbour, parts);
-    take(relay, statuses, key, Envelope::Status(code, parts), ways, rec)
+    if let Some(answer) = answer_before(statuses, relay.time, &key, parts) {
+        return answer;
+    }
+    let ways = status_ways(routes, neighbour, parts)?;
+    take_new(
+        relay,
+        statuses,
+        key,
+        Envelope::Status(code, parts),
+        ways,
+        rec,
+    )
 }
 
 // A receipt that nobody asked for.
@@ -40,6 +50,7 @@ fn is_unwanted(code: u16, parts: Parts<'_>) -> bool
     100 <= code && code <= 199 && parts.ar == 0
 }
 
+#[tactic(auto, unfolding(crate::specs::Statuses::status_taken))]
 pub fn take_status<S: Spool>(
     relay: &mut Relay<S>,
     neighbour: u8,
