@@ -43,8 +43,10 @@ use Rattle.arrival_checks.specs.Keys.{or_no_row}
 use Rattle.intake.specs.TakingIn.{free_place, room_at, answer_for, taking_in}
 use Rattle.relay.specs.Moves.{standing_on, settled}
 use Rattle.intake.specs.Steps.{Taken, taken, go_on, unless_found}
-use Rattle.message_arrival.specs.Messages.{message_row_of, message_taken}
-use Rattle.status_arrival.specs.Statuses.{status_row_of, is_unwanted, wanted_taken, status_taken}
+use Rattle.message_rows.specs.Messages.{message_row_of}
+use Rattle.message_arrival.specs.Messages.{message_taken}
+use Rattle.status_rows.specs.Statuses.{status_row_of}
+use Rattle.status_arrival.specs.Statuses.{is_unwanted, wanted_taken, status_taken}
 use Rattle.account.specs.Accounts.{Account}
 use Rattle.account.specs.Records.{is_message, is_status, end_in, end_read, kind_read}
 use Rattle.account.specs.Faith.{Faithful, Describes, Matches, Answers}
