@@ -26,6 +26,7 @@ impl Drop for Slot {
     }
 }
 
+// An array, since nothing here allocates.
 #[derive(Drop)]
 pub struct Connections {
     slots: [Slot; 64],

@@ -85,6 +85,7 @@ pub(crate) fn report<S: Spool>(relay: &mut Relay<S>, place: usize, code: u16, ba
     ensures reported { result ≡ is_reported relay.old place code }
     ensures state { relay.new ≡ reported relay.old place code back }
 {
+    // Two records of the greatest length: nothing here allocates.
     let mut message = [0; 2048];
     let mut status = [0; 2048];
     let rec = bytes_at(&relay.spool, place, &mut message);

@@ -8,6 +8,7 @@ use crate::standing::{About, Standing};
 
 pub const PLACES: usize = 256;
 
+// An array, since nothing here allocates.
 #[derive(Drop)]
 pub struct Table {
     standings: [Standing; 256],
