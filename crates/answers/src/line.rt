@@ -95,8 +95,8 @@ fn put_refused(out: &mut Vec<u8>, verb: Verb, refusal: Refusal) -> Result<(), Al
     ensures { OnOk result (out.new.items ≡ appended out.old.items (refused_pieces verb (said_refusal refusal))) }
 {
     put(out, verb_text(verb))?;
-    put_keyed_number(out, b" refused ", u64::from(refusal.number()))?;
-    put_at(out, refusal.at())
+    put_keyed_number(out, b" refused ", u64::from(refusal.number))?;
+    put_at(out, refusal.at)
 }
 
 fn put_error(out: &mut Vec<u8>, fault: LineFault) -> Result<(), AllocError>

@@ -8,7 +8,7 @@ pub enum Arrived {
     Entered { place: usize },
     // waiting for a neighbour, in this place
     Waiting { place: usize },
-    // it came before; the code is that of the first answer plus 1
+    // it came before; the code is that of the first answer plus 1, a number since it is told as one and comes from a row
     Repeated { code: u16 },
     // a receipt that nobody asked for: it is not kept
     Unwanted,

@@ -16,7 +16,7 @@ const LAST_NEIGHBOUR: u8 = 254;
 
 // The neighbour that the client is, its class, and its address where it has one.
 // The class is a number, and a flag says whether there is an address: whoever fills a row may write anything there, and
-// `is_lawful` judges it.
+// `is_lawful` judges it. A narrower type would ask more of them.
 #[derive(Clone, Copy)]
 pub struct Client {
     pub neighbour: u8,

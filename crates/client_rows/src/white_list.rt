@@ -57,8 +57,6 @@ impl Row for WhiteListRow {
 
     ghost kind = { white_list_kind };
 
-    ghost by_eq = { λ a b. refl };
-
     ghost alike = { by_image bytes_eq (λ f. f) bytes_eq-Decides };
 
     ghost empty = { refl };
@@ -73,6 +71,10 @@ impl Row for WhiteListRow {
 
     fn key(&self) -> [u8; 32] {
         self.fingerprint
+    }
+
+    fn has_key(&self, key: &[u8; 32]) -> bool {
+        self.key() == *key
     }
 
     fn freed() -> WhiteListRow {

@@ -1,4 +1,4 @@
-// The line that tells an envelope.
+// What an answer says of an envelope.
 
 #![tactic(auto)]
 

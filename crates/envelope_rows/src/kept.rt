@@ -5,7 +5,7 @@ ghost use Rattle.envelope_rows.specs.Kepts.{kept_ok, empty_kept};
 use envelope::limits::is_timeout;
 
 // The time at which the timeout is over, the timeout, and the code that was answered first: plain numbers, since whoever
-// fills a row may write anything there, and `is_lawful` judges them.
+// fills a row may write anything there, and `is_lawful` judges them. A narrower type would ask more of them.
 #[derive(Clone, Copy, PartialEq, Eq, Debug)]
 pub struct Kept {
     pub todt: u32,

@@ -5,7 +5,7 @@ ghost use Rattle.ledger.specs.Kinds.{Kind, Equivalence, has_key};
 // A row of a ledger: filled or not, with a key and an end. A row that is not filled counts as free.
 // A key is held by value: an associated type cannot be given the lifetime of a text that it borrows.
 pub trait Row: Copy {
-    type Key: Copy + Eq;
+    type Key: Copy;
 
     ghost kind: { Kind Self Self.Key };
 
@@ -19,21 +19,14 @@ pub trait Row: Copy {
     fn key(&self) -> Self::Key
         ensures { result ≡ kind.key self.now };
 
+    // Whether the row's key is the same as this one: the only way in which keys are compared.
+    fn has_key(&self, key: &Self::Key) -> bool
+        ensures { result ≡ has_key kind key.now self.now };
+
     // The row that says nothing.
     fn freed() -> Self
         ensures { result ≡ kind.freed };
 
-    // Whether the row's key is the same as this one: the only way in which keys are compared.
-    final fn has_key(&self, key: &Self::Key) -> bool
-        ensures { result ≡ has_key kind key.now self.now }
-    {
-        self.key() == *key
-    }
-
-    // `==` is that sameness.
-    ghost by_eq: { (a b : Self.Key) → kind.same a b ≡ Self.Key.eq a b };
-
-    // Each kind proves this beside the laws of its `Eq`, which no term here can name.
     ghost alike: { Equivalence kind.same };
 
     ghost empty: { kind.filled kind.freed ≡ false };

@@ -18,8 +18,9 @@ pub struct MessageKey {
     pub on: ShortText,
 }
 
-// A message's row. Whoever fills it field by field may write anything: a row that breaks a form or a bound is not filled,
-// and `used` is a flag of its own, since no part has a value that means "none".
+// A message's row. Whoever fills it field by field may write anything: a row that breaks a form or a bound is not filled.
+// `used` is a flag of its own: an `Option` of the row would ask more of whoever fills one, who could write no part of a row that is
+// not in use.
 #[derive(Clone, Copy)]
 pub struct MessageRow {
     pub used: bool,
@@ -55,8 +56,6 @@ impl Row for MessageRow {
 
     ghost kind = { messages };
 
-    ghost by_eq = { λ a b. refl };
-
     ghost alike = { both _ _ (through same_short_text (λ k. k.fr) short_text_alike) (through same_short_text (λ k. k.on) short_text_alike) };
 
     ghost empty = { refl };
@@ -74,6 +73,10 @@ impl Row for MessageRow {
             fr: self.fr,
             on: self.on,
         }
+    }
+
+    fn has_key(&self, key: &MessageKey) -> bool {
+        self.key() == *key
     }
 
     fn freed() -> MessageRow {

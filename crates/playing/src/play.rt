@@ -16,6 +16,7 @@ use status_rows::status::StatusRow;
 use text::address::Address;
 
 // The log is too short for all calls, and nothing was played: what was lent comes back as it was.
+#[derive(Drop)]
 pub struct LogTooShort<'a, S> {
     pub spool: S,
     pub messages: &'a mut [MessageRow],

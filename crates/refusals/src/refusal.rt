@@ -1,64 +1,57 @@
 // A refusal as an answer tells it, and the faults of which it is made.
 ghost use Rattle.std.specs.Prelude.{◌≡◌};
-ghost use Rattle.refusals.specs.Refusals.{fault_values, said_refusal};
-ghost use Rattle.refusals.specs.declared.refusal.Refusal.TheVariants.{Record, Write, Text};
+ghost use Rattle.envelope.specs.Refusals.{record_refusal};
+ghost use Rattle.writing.specs.Refusals.{write_refusal};
+ghost use Rattle.text.specs.Faults.{text_refusal};
+ghost use Rattle.refusals.specs.Refusals.{said_refusal};
 
 use envelope::fault::{FieldFault, RecordFault};
 use text::fault::TextFault;
 use writing::fault::WriteFault;
 
-// A refusal, by the layer that refuses.
+// A refusal by its number; where a field is broken, which and where. An enum of the faults would ask more of whoever tells one:
+// an answer tells any number.
 #[derive(Clone, Copy, PartialEq, Eq, Debug)]
-pub enum Refusal {
-    Record(RecordFault),
-    Write(WriteFault),
-    Text(TextFault),
+pub struct Refusal {
+    pub number: u16,
+    pub at: Option<FieldFault>,
 }
 
 impl From<RecordFault> for Refusal {
-    ghost from_gives = { λ fault r. r ≡ Record fault };
+    ghost from_gives = { λ fault r. said_refusal r ≡ record_refusal fault };
 
     fn from(fault: RecordFault) -> Refusal {
-        Refusal::Record(fault)
+        let at = match fault {
+            RecordFault::Field(field) => Some(field),
+            RecordFault::Length | RecordFault::Kind => None,
+        };
+        Refusal {
+            number: fault.number(),
+            at,
+        }
     }
 }
 
 impl From<WriteFault> for Refusal {
-    ghost from_gives = { λ fault r. r ≡ Write fault };
+    ghost from_gives = { λ fault r. said_refusal r ≡ write_refusal fault };
 
     fn from(fault: WriteFault) -> Refusal {
-        Refusal::Write(fault)
+        let at = match fault {
+            WriteFault::Field(field) => Some(field),
+            WriteFault::Length | WriteFault::Buffer => None,
+        };
+        Refusal {
+            number: fault.number(),
+            at,
+        }
     }
 }
 
 impl From<TextFault> for Refusal {
-    ghost from_gives = { λ fault r. r ≡ Text fault };
+    ghost from_gives = { λ fault r. said_refusal r ≡ text_refusal fault };
 
     fn from(fault: TextFault) -> Refusal {
-        Refusal::Text(fault)
-    }
-}
-
-impl Refusal {
-    // The number that stands for the refusal.
-    pub fn number(self) -> u16
-        ensures { result ≡ (said_refusal self).number }
-    {
-        match self {
-            Refusal::Record(record) => record.number(),
-            Refusal::Write(write) => write.number(),
-            Refusal::Text(text) => text.number(),
-        }
-    }
-
-    // Where a field is broken, which and where.
-    pub fn at(self) -> Option<FieldFault>
-        ensures { fault_values result ≡ (said_refusal self).values }
-    {
-        match self {
-            Refusal::Record(RecordFault::Field(field)) => Some(field),
-            Refusal::Write(WriteFault::Field(field)) => Some(field),
-            _ => None,
-        }
+        let number = fault.number();
+        Refusal { number, at: None }
     }
 }

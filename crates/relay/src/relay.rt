@@ -14,7 +14,7 @@ use std::marker::Model;
 use text::address::Address;
 
 // A store-and-forward relay. Its fields are open, since the calls on it stand in crates of their own; no call relies on how
-// they came about: each has a defined result for whatever they hold.
+// they came about: each has a defined result for whatever they hold. A contract sees a relay as its state.
 #[derive(Drop)]
 pub struct Relay<S: Spool> {
     // the greatest clock reading so far

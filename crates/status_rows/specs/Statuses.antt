@@ -1,6 +1,5 @@
 -- Status rows: their key is FR, AD, ON and the code, and they end seven days after TODT.
 use Rattle.std.specs.Prelude.{◌≡◌, ℕ, Bool, true, false, ◌&&◌, List, Some, None, Option, ◌==◌}
-use Rattle.std.proofs.Math.Bool.{and_assoc}
 use Rattle.envelope.specs.Life.{end_of_status}
 use Rattle.envelope.specs.Limits.{code_ok}
 use Rattle.text.specs.Forms.{is_address, is_operation_number}
@@ -27,11 +26,6 @@ status_end r = end_of_status r.kept.todt
 
 abbrev pub same_status : StatusKey → StatusKey → Bool
 same_status a b = (same_short_text a.fr b.fr && same_short_text a.ad b.ad) && (same_short_text a.on b.on && a.code == b.code)
-
--- one part after another
-pub same_in_turn : (a b : StatusKey)
-    → same_status a b ≡ (same_short_text a.fr b.fr && (same_short_text a.ad b.ad && (same_short_text a.on b.on && a.code == b.code)))
-same_in_turn a b = and_assoc (same_short_text a.fr b.fr) (same_short_text a.ad b.ad) (same_short_text a.on b.on && a.code == b.code)
 
 abbrev pub freed_status : StatusRow
 freed_status = record { used = false; fr = empty_text; ad = empty_text; on = empty_text; code = 0; kept = empty_kept }

@@ -1,6 +1,6 @@
 // Status rows: which statuses were passed on.
 ghost use Rattle.std.specs.Prelude.{◌≡◌, IfSome, nat_eq, refl};
-ghost use Rattle.status_rows.specs.Statuses.{statuses, status_row_of, status_row, status_key_of, StatusParts, same_in_turn};
+ghost use Rattle.status_rows.specs.Statuses.{statuses, status_row_of, status_row, status_key_of, StatusParts};
 ghost use Rattle.ledger.proofs.Equivalences.{both, through};
 ghost use Rattle.short_text.specs.ShortTexts.{same_short_text};
 ghost use Rattle.envelope_rows.proofs.Alike.{short_text_alike, number_alike};
@@ -23,7 +23,7 @@ pub struct StatusKey {
     pub code: u16,
 }
 
-// A status's row. As with a message's, a row that breaks a form or a bound is not filled.
+// A status's row. As with a message's, a row that breaks a form or a bound is not filled, and `used` is a flag of its own.
 // It stands beside MessageRow and is no instance of one type with it: what fills a row and when it ends differ too, and
 // the laws over runs read a message row's parts by their names.
 #[derive(Clone, Copy)]
@@ -68,8 +68,6 @@ impl Row for StatusRow {
 
     ghost kind = { statuses };
 
-    ghost by_eq = { same_in_turn };
-
     ghost alike = { both _ _ (both _ _ (through same_short_text (λ k. k.fr) short_text_alike) (through same_short_text (λ k. k.ad) short_text_alike))
         (both _ _ (through same_short_text (λ k. k.on) short_text_alike) (through nat_eq (λ k. k.code) number_alike)) };
 
@@ -95,6 +93,10 @@ impl Row for StatusRow {
             on: self.on,
             code: self.code,
         }
+    }
+
+    fn has_key(&self, key: &StatusKey) -> bool {
+        self.key() == *key
     }
 
     fn freed() -> StatusRow {

@@ -4,11 +4,6 @@ use Rattle.playing.proofs.Entries.{brought_more, agrees_more, all_played}
 use Rattle.playing.proofs.Turns.{begins, turn, ends}
 use Rattle.playing.proofs.play.play.Goals as goal
 
-pub loop-i-init : goal.loop-i-init
-loop-i-init g c =
-    let e = c.new-player.ensures in
-    (refl, e.begins_the_account, begins _ c.args.calls.now c.args.log.now _ (λ j. record { state = e.state j; slots = e.connections j; messages = e.messages j; statuses = e.statuses j }), refl, refl)
-
 pub loop-i-preserved : goal.loop-i-preserved
 loop-i-preserved g c = (
   brought_more c.args.calls.now c.loop-i.i _ c.loop-i.log c.enter.new.entry (omega arith) (omega arith) c.enter.ensures.brought c.loop-i.invariant.0,

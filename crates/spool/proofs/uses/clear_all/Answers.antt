@@ -3,13 +3,5 @@ use Rattle.std.proofs.lemmas.List.{length-append, length-replicate, length-drop}
 use Rattle.spool.proofs.Fills.{fill_more, fill_all}
 use Rattle.spool.proofs.uses.clear_all.Goals as goal
 
-pub empty-requires : goal.empty-requires
-empty-requires g c =
-    let k = ap length c.loop-place.invariant in
-    omega (arith, simp (length-append, length-replicate, length-drop) at k)
-
 pub loop-place-preserved : goal.loop-place-preserved
 loop-place-preserved g c = fill_more (g.S.Spool.held c.args.spool.now) [] _ _ _ (omega arith) c.loop-place.invariant c.empty.ensures
-
-pub returns : goal.returns
-returns g c = fill_all (g.S.Spool.held c.args.spool.now) [] _ _ _ (omega arith) (omega arith) c.loop-place.invariant
