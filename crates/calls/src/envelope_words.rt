@@ -1,5 +1,5 @@
-// Memory and words go separately through all of these, as everywhere: what allocates is handed the allocator first.
 // envelope record HEX, envelope message KEYED-WORDS, envelope status KEYED-WORDS
+// Memory and words go separately through all of these: a struct of the two would be taken apart wherever one is used.
 ghost use Rattle.words.specs.Cuts.{seen};
 ghost use Rattle.arguments.specs.Faults.{Gives};
 ghost use Rattle.calls.specs.Calls.{asked, record_call, fields_call, envelope_call};
@@ -35,6 +35,7 @@ pub(crate) fn envelope_call(heap: Global, words: &[&[u8]]) -> Result<Call, CallF
     let [kind, rest @ ..] = words else {
         return Err(LineFault::WrongWords.into());
     };
+    // A `match` on the word was tried, and its last arm did not close.
     if is_word(kind, b"record") {
         record_call(heap, rest)
     } else if is_word(kind, b"message") {

@@ -1,5 +1,5 @@
-// Bytes as hex digits, read and written. The kit's `hex` would be one crate more to trust; it tells faults that no answer
-// tells, and makes a text of its own of all that it writes.
+// Bytes as hex digits, read and written. The kit's `hex` would be no plainer: it tells faults that no answer tells, and makes a
+// text of its own of all that it writes.
 ghost use Rattle.std.specs.Prelude.{◌≡◌, ℕ, ◌/◌, ◌%◌, ◌<◌, true, List, [], ◌∷◌, ◌++◌, take, IfOk, Some, vec_items, vec_len, MatchResult};
 ghost use Rattle.std.specs.Option.{option_map};
 ghost use Rattle.digits.specs.Hexes.{nibble, paired, hex_of, hex_digit, hex_text, all_bytes};

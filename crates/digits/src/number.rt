@@ -34,8 +34,8 @@ pub fn number(text: &[u8], most: u64) -> Option<u64>
     Some(n)
 }
 
-// Adds the digits of the number; with no memory for them, nothing. (`write!` would tell want of memory as any `io::Error`, and
-// the kit's `itoa` would be one crate more to trust.)
+// Adds the digits of the number; with no memory for them, nothing. (`write!` would be no
+// plainer: it tells want of memory as any `io::Error`.)
 fn push_digits(n: u64, out: &mut Vec<u8>) -> Result<(), AllocError>
     ensures { out.new.items ≡ appended result (decimal n) out.old.items }
 {

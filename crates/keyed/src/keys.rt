@@ -27,7 +27,8 @@ pub(crate) fn count_key(name: &[u8], words: &[&[u8]]) -> usize
     words.iter().filter(|word| has_key(name, **word)).count()
 }
 
-// The value of the first word with this key. (A `for`: the proof by `find_map` did not close.)
+// The value of the first word with this key. (A `for`: the proof by `find_map` did not close. A map would be no plainer: it would
+// have to keep which word came first.)
 pub(crate) fn find_value<'a>(name: &[u8], words: &[&'a [u8]]) -> Option<&'a [u8]>
     ensures { option_map (λ x. x.now) result ≡ find name.now (seen words.now) }
 {

@@ -57,6 +57,7 @@ fn is_at_most_once(name: &[u8], words: &[&[u8]]) -> bool
     count_key(name, words) <= 1
 }
 
+// The two rules stay apart: one function for both would take the test of a count, and neither has more than that.
 fn are_once(names: &[&[u8]], words: &[&[u8]]) -> bool
     ensures { result ≡ all_once (seen names.now) (seen words.now) }
 {

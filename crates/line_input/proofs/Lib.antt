@@ -1,1 +1,2 @@
+pub mod Ends
 mod Wholes

@@ -1,6 +1,6 @@
 // A line that comes in pieces, as a reader holds them.
 ghost use Rattle.std.specs.Prelude.{◌≡◌, is_ok, IfOk, if◌then◌else◌};
-ghost use Rattle.line_input.specs.Pieces.{got_of, got_at_end, came_of, over_after, kept_after, look_of, line_after};
+ghost use Rattle.line_input.specs.Pieces.{got_at_end, came_of, over_after, kept_after, look_of, line_after};
 
 use crate::input::Got;
 use crate::keeping::keep;
@@ -26,18 +26,6 @@ pub(crate) struct Look {
     pub(crate) next: Next,
 }
 
-fn got_of(over: bool) -> Got
-    ensures { result ≡ got_of over }
-{
-    if over { Got::Long } else { Got::Line }
-}
-
-fn came_of(over: bool) -> Came
-    ensures { result ≡ came_of over }
-{
-    if over { Came::Over } else { Came::Short }
-}
-
 // What the end of the input makes of a line.
 pub(crate) fn at_end(came: Came) -> Got
     ensures { result ≡ got_at_end came }
@@ -49,33 +37,40 @@ pub(crate) fn at_end(came: Came) -> Got
     }
 }
 
-// Keeps more of the line, where it is not too long; whether it is now.
-fn keep_more(line: &mut Vec<u8>, came: Came, bytes: &[u8]) -> io::Result<bool>
-    ensures answer { IfOk result (λ over. over ≡ over_after 8192 came line.old.items bytes.now) }
+// Keeps more of the line, where it is not too long.
+fn keep_more(line: &mut Vec<u8>, came: Came, bytes: &[u8]) -> io::Result<Came>
+    ensures answer { IfOk result (λ now. now ≡ came_of (over_after 8192 came line.old.items bytes.now)) }
     ensures after { line.new.items ≡ (if is_ok result then kept_after 8192 came line.old.items bytes.now else line.old.items) }
 {
     match came {
-        Came::Over => Ok(true),
-        Came::Nothing | Came::Short => Ok(!keep(line, bytes)?),
+        Came::Over => Ok(Came::Over),
+        Came::Nothing | Came::Short => {
+            if keep(line, bytes)? {
+                Ok(Came::Short)
+            } else {
+                Ok(Came::Over)
+            }
+        }
     }
 }
 
 // Takes in what a piece holds of the line.
+#[tactic(auto, using(crate::proofs::Ends::end_of_kept))]
 pub(crate) fn take_in(line: &mut Vec<u8>, came: Came, held: &[u8]) -> io::Result<Look>
     ensures answer { IfOk result (λ look. look ≡ look_of 8192 came line.old.items held.now) }
     ensures after { line.new.items ≡ (if is_ok result then line_after 8192 came line.old.items held.now else line.old.items) }
 {
     let end = len_before(held, b'\n');
-    let over = keep_more(line, came, &held[0..end])?;
+    let now = keep_more(line, came, &held[0..end])?;
     if end < held.len() {
         Ok(Look {
             spent: end + 1,
-            next: Next::Break(got_of(over)),
+            next: Next::Break(at_end(now)),
         })
     } else {
         Ok(Look {
             spent: end,
-            next: Next::Continue(came_of(over)),
+            next: Next::Continue(now),
         })
     }
 }

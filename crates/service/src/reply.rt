@@ -25,7 +25,7 @@ pub(crate) fn read_reply(bytes: &[u8]) -> Answer<'_>
     }
 }
 
-// The longest record.
+// The longest record. The room for it is an array, so that writing one asks for no memory.
 pub(crate) const ROOM: usize = 2048;
 
 pub(crate) fn write_reply<'a>(fields: &FieldText, room: &'a mut [u8; ROOM]) -> Answer<'a>

@@ -12,7 +12,8 @@ fn is_gap(b: u8) -> bool
     b == b' ' || b == b'\t'
 }
 
-// How many gaps stand in front.
+// How many gaps stand in front. This and the two below are a chain each: one function for all would take the test, which is
+// all that they have.
 fn gap_len(text: &[u8]) -> usize
     ensures value { result ≡ prefix_len is_gap text.now }
     ensures within { result ≤ length text.now }
