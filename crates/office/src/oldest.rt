@@ -1,6 +1,6 @@
 // Giving the oldest entry of the inbox to the local office, and the oldest notice to its contacts.
 ghost use Rattle.std.specs.Prelude.{◌≡◌};
-ghost use Rattle.relay.specs.States.{view, timed};
+ghost use Rattle.relay.specs.States.{timed};
 ghost use Rattle.searches.specs.Earliest.{Entry, Notified, earliest};
 ghost use Rattle.office.specs.Gifts.{kind_at, taken_answer, taken_buffer, taken_state, oldest_answer, oldest_buffer, oldest_state};
 
@@ -39,9 +39,9 @@ fn give<S: Spool>(
     found: Option<Found>,
     buf: &mut [u8],
 ) -> Result<Option<Given>, SpoolFault>
-    ensures answer { result ≡ taken_answer (timed (view S.held relay.old) clock) found buf.old }
-    ensures buffer { buf.new ≡ taken_buffer (timed (view S.held relay.old) clock) found buf.old }
-    ensures state { view S.held relay.new ≡ taken_state (timed (view S.held relay.old) clock) found buf.old }
+    ensures answer { result ≡ taken_answer (timed relay.old clock) found buf.old }
+    ensures buffer { buf.new ≡ taken_buffer (timed relay.old clock) found buf.old }
+    ensures state { relay.new ≡ taken_state (timed relay.old clock) found buf.old }
 {
     relay.tick(clock);
     let Some(found) = found else {

@@ -19,6 +19,7 @@ use Rattle.delivery.specs.Answers.{answer_told, answer_state}
 use Rattle.sweeping.specs.Sweeps.{sweep_answer, sweep_state}
 use Rattle.office.specs.Gifts.{oldest_answer, oldest_buffer, oldest_state}
 use Rattle.searches.specs.Earliest.{Entry, Notified}
+use Rattle.player.specs.declared.player.Player.{Player}
 use Rattle.player.specs.declared.call.Call.{Call}
 use Rattle.player.specs.declared.call.Call.TheVariants as call
 use Rattle.player.specs.Answers.{Answer, admission_of}

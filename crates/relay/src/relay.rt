@@ -34,6 +34,11 @@ impl<S: Spool> Model for Relay<S> {
     ghost use Rattle.relay.specs.Seen.{view as seen_over};
 
     ghost view = { λ r. seen_over S.held r };
+
+    ghost use Rattle.std.specs.Prelude.{◌≡◌, length};
+
+    // A standing for each of 256 places, whatever the calls.
+    ghost invariant = { λ r. length r.table.standings ≡ 256 };
 }
 
 impl<S: Spool> Relay<S> {

@@ -1,6 +1,5 @@
 // What is due by the clock alone: a try that nobody answered, a message that expired, a status that was kept long enough.
-ghost use Rattle.std.specs.Prelude.{◌≡◌, max};
-ghost use Rattle.relay.specs.States.{view};
+ghost use Rattle.std.specs.Prelude.{◌≡◌, max, length};
 ghost use Rattle.sweeping.specs.Sweeps.{chore, sweep_answer, sweep_state, LowestDue};
 
 use ending::act::{Act, Done, Task, perform};
@@ -46,6 +45,7 @@ fn chore(duty: Duty, standing: Standing) -> Option<Task>
 fn sweep_one<S: Spool>(relay: &mut Relay<S>, clock: u32) -> Option<Swept>
     ensures answer { result ≡ sweep_answer relay.old clock }
     ensures state { relay.new ≡ sweep_state relay.old clock }
+    ensures full { length relay.old.standings ≡ 256 }
 {
     relay.tick(clock);
     let found = first_duty(&relay.table, relay.time)?;
@@ -57,9 +57,9 @@ fn sweep_one<S: Spool>(relay: &mut Relay<S>, clock: u32) -> Option<Swept>
 
 // Does what is due at the lowest place where something is; nothing where nothing is due.
 pub fn sweep<S: Spool>(relay: &mut Relay<S>, clock: u32) -> Option<Swept>
-    ensures answer { result ≡ sweep_answer (view S.held relay.old) clock }
-    ensures state { view S.held relay.new ≡ sweep_state (view S.held relay.old) clock }
-    ensures lowest_due { LowestDue (max relay.old.time clock) relay.old.table.standings result }
+    ensures answer { result ≡ sweep_answer relay.old clock }
+    ensures state { relay.new ≡ sweep_state relay.old clock }
+    ensures lowest_due { LowestDue (max relay.old.time clock) relay.old.standings result }
 {
     sweep_one(relay, clock)
 }

@@ -8,4 +8,4 @@ pub returns : goal.returns
 returns g c =
     let s = timed c.args.relay.now c.args.clock in
     let e = c.sweep_one.ensures.answer in
-    record { answer = e; state = c.sweep_one.ensures.state; lowest_due = subst (LowestDue s.time s.standings) (sym e) (lowest s c.args.relay.now.table.full) }
+    record { answer = e; state = c.sweep_one.ensures.state; lowest_due = subst (LowestDue s.time s.standings) (sym e) (lowest s c.sweep_one.ensures.full) }
