@@ -24,6 +24,27 @@ pub struct Player<'a, S: Spool> {
     pub ledgers: Ledgers<'a>,
 }
 
+// The player that `new` gives, without the account.
+fn begin<'a, S: Spool>(
+    address: Address,
+    spool: S,
+    messages: &'a mut [MessageRow],
+    statuses: &'a mut [StatusRow],
+) -> Player<'a, S>
+    ensures state { result.relay ≡ fresh (address_text address) (S.held spool) }
+    ensures connections { result.connections.slots ≡ replicate 64 Closed }
+    ensures messages { result.ledgers.messages.rows.now ≡ replicate (length messages.old) freed_message }
+    ensures statuses { result.ledgers.statuses.rows.now ≡ replicate (length statuses.old) freed_status }
+    ensures messages_lender { result.ledgers.messages.rows.ghost_name ≡ messages.entry.ghost_name }
+    ensures statuses_lender { result.ledgers.statuses.rows.ghost_name ≡ statuses.entry.ghost_name }
+{
+    Player {
+        relay: Relay::new(address, spool),
+        connections: Connections::new(),
+        ledgers: Ledgers::wiped(messages, statuses),
+    }
+}
+
 impl<'a, S: Spool> Player<'a, S> {
     // A new relay over the spool with no connection admitted, and both ledgers wiped: it agrees with the account of no call.
     pub fn new(
@@ -40,10 +61,6 @@ impl<'a, S: Spool> Player<'a, S> {
         ensures statuses_lender { result.ledgers.statuses.rows.ghost_name ≡ statuses.entry.ghost_name }
         ensures begins_the_account { Agrees (account []) (world_in result) }
     {
-        Player {
-            relay: Relay::new(address, spool),
-            connections: Connections::new(),
-            ledgers: Ledgers::wiped(messages, statuses),
-        }
+        begin(address, spool, messages, statuses)
     }
 }
