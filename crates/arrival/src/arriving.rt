@@ -9,15 +9,17 @@ ghost use Rattle.intake.specs.Promises.{ByPlace, StoredAt};
 ghost use Rattle.arrival.specs.Arrivals.{outcome, originator_checked, arrival};
 
 use crate::bringing::bring;
-use crate::ledgers::Ledgers;
 use arrival_checks::answer::Arrived;
 use arrival_checks::fault::ArrivalFault;
 use connection::admitted::Admitted;
 use envelope::parts::Envelope;
 use envelope_reading::reading::read;
+use ledger::table::Ledger;
+use message_rows::message::MessageRow;
 use relay::relay::Relay;
 use routing::row::RouteRow;
 use spool::Spool;
+use status_rows::status::StatusRow;
 
 // An Endpoint brings only what comes from its own address; the class of the connection counts for nothing else.
 fn check_originator(connection: &Admitted, envelope: Envelope<'_>) -> Result<(), ArrivalFault>
@@ -37,11 +39,12 @@ fn receive<S: Spool>(
     clock: u32,
     rec: &[u8],
     routes: &[RouteRow],
-    ledgers: &mut Ledgers<'_>,
+    messages: &mut Ledger<MessageRow>,
+    statuses: &mut Ledger<StatusRow>,
 ) -> Result<Arrived, ArrivalFault>
-    ensures outcome { outcome (viewed (λ x. x) arrival_refusal result) relay.new ledgers.new.messages.rows.now ledgers.new.statuses.rows.now ≡ arrival relay.old (may_send connection.now) connection.now.neighbour clock rec.now routes.now ledgers.old.messages.rows.now ledgers.old.statuses.rows.now }
-    ensures messages_lender { ledgers.new.messages.rows.ghost_name ≡ ledgers.old.messages.rows.ghost_name }
-    ensures statuses_lender { ledgers.new.statuses.rows.ghost_name ≡ ledgers.old.statuses.rows.ghost_name }
+    ensures outcome { outcome (viewed (λ x. x) arrival_refusal result) relay.new messages.new.rows.now statuses.new.rows.now ≡ arrival relay.old (may_send connection.now) connection.now.neighbour clock rec.now routes.now messages.old.rows.now statuses.old.rows.now }
+    ensures messages_lender { messages.new.rows.ghost_name ≡ messages.old.rows.ghost_name }
+    ensures statuses_lender { statuses.new.rows.ghost_name ≡ statuses.old.rows.ghost_name }
 {
     relay.tick(clock);
     let envelope = read(rec)?;
@@ -52,7 +55,8 @@ fn receive<S: Spool>(
         envelope,
         rec,
         routes,
-        ledgers,
+        messages,
+        statuses,
     )
 }
 
@@ -64,16 +68,17 @@ pub fn arrive<S: Spool>(
     clock: u32,
     rec: &[u8],
     routes: &[RouteRow],
-    ledgers: &mut Ledgers<'_>,
+    messages: &mut Ledger<MessageRow>,
+    statuses: &mut Ledger<StatusRow>,
 ) -> Result<Arrived, ArrivalFault>
-    ensures answer { viewed (λ x. x) arrival_refusal result ≡ (arrival relay.old (may_send connection.now) connection.now.neighbour clock rec.now routes.now ledgers.old.messages.rows.now ledgers.old.statuses.rows.now).answer }
-    ensures state { relay.new ≡ (arrival relay.old (may_send connection.now) connection.now.neighbour clock rec.now routes.now ledgers.old.messages.rows.now ledgers.old.statuses.rows.now).state }
-    ensures messages { ledgers.new.messages.rows.now ≡ (arrival relay.old (may_send connection.now) connection.now.neighbour clock rec.now routes.now ledgers.old.messages.rows.now ledgers.old.statuses.rows.now).messages }
-    ensures statuses { ledgers.new.statuses.rows.now ≡ (arrival relay.old (may_send connection.now) connection.now.neighbour clock rec.now routes.now ledgers.old.messages.rows.now ledgers.old.statuses.rows.now).statuses }
-    ensures messages_lender { ledgers.new.messages.rows.ghost_name ≡ ledgers.old.messages.rows.ghost_name }
-    ensures statuses_lender { ledgers.new.statuses.rows.ghost_name ≡ ledgers.old.statuses.rows.ghost_name }
-    ensures not_taken_in_moves_only_the_time { ByPlace result (λ _. Unit {0}) ((relay.new ≡ timed relay.old clock) × (ledgers.new.messages.rows.now ≡ ledgers.old.messages.rows.now) × (ledgers.new.statuses.rows.now ≡ ledgers.old.statuses.rows.now)) }
+    ensures answer { viewed (λ x. x) arrival_refusal result ≡ (arrival relay.old (may_send connection.now) connection.now.neighbour clock rec.now routes.now messages.old.rows.now statuses.old.rows.now).answer }
+    ensures state { relay.new ≡ (arrival relay.old (may_send connection.now) connection.now.neighbour clock rec.now routes.now messages.old.rows.now statuses.old.rows.now).state }
+    ensures messages { messages.new.rows.now ≡ (arrival relay.old (may_send connection.now) connection.now.neighbour clock rec.now routes.now messages.old.rows.now statuses.old.rows.now).messages }
+    ensures statuses { statuses.new.rows.now ≡ (arrival relay.old (may_send connection.now) connection.now.neighbour clock rec.now routes.now messages.old.rows.now statuses.old.rows.now).statuses }
+    ensures messages_lender { messages.new.rows.ghost_name ≡ messages.old.rows.ghost_name }
+    ensures statuses_lender { statuses.new.rows.ghost_name ≡ statuses.old.rows.ghost_name }
+    ensures not_taken_in_moves_only_the_time { ByPlace result (λ _. Unit {0}) ((relay.new ≡ timed relay.old clock) × (messages.new.rows.now ≡ messages.old.rows.now) × (statuses.new.rows.now ≡ statuses.old.rows.now)) }
     ensures taken_in_is_stored { ByPlace result (StoredAt rec.now relay.old relay.new) (Unit {0}) }
 {
-    receive(relay, connection, clock, rec, routes, ledgers)
+    receive(relay, connection, clock, rec, routes, messages, statuses)
 }

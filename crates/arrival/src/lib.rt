@@ -4,4 +4,3 @@
 
 pub mod arriving;
 pub mod bringing;
-pub mod ledgers;

@@ -1,5 +1,5 @@
 -- What each call gives back, and the world after it: the relay, its connections and the two ledgers.
-use Rattle.std.specs.Prelude.{◌≡◌, ℕ, max, cond, List, Some, None, Ok, Err, Option, Result}
+use Rattle.std.specs.Prelude.{ℕ, max, cond, List, Some, None, Ok, Err, Option, Result}
 use Rattle.text.specs.Said.{Said}
 use Rattle.message_rows.specs.declared.message.MessageRow.{MessageRow}
 use Rattle.status_rows.specs.declared.status.StatusRow.{StatusRow}
@@ -19,7 +19,6 @@ use Rattle.delivery.specs.Answers.{answer_told, answer_state}
 use Rattle.sweeping.specs.Sweeps.{sweep_answer, sweep_state}
 use Rattle.office.specs.Gifts.{oldest_answer, oldest_buffer, oldest_state}
 use Rattle.searches.specs.Earliest.{Entry, Notified}
-use Rattle.player.specs.declared.player.Player.{Player}
 use Rattle.player.specs.declared.call.Call.{Call}
 use Rattle.player.specs.declared.call.Call.TheVariants as call
 use Rattle.player.specs.Answers.{Answer, admission_of}
@@ -33,16 +32,6 @@ pub record World : Type 0 where
 
 abbrev pub world : State → List Slot → List MessageRow → List StatusRow → World
 world s slots ms ss = record { state = s; slots = slots; messages = ms; statuses = ss }
-
--- what a player has and holds
-abbrev pub world_in : {S : Type 0} → Player S → World
-world_in p = world p.relay p.connections.slots p.ledgers.messages.rows.now p.ledgers.statuses.rows.now
-
--- the ledgers are still over the same memory
-abbrev pub SameMemory : {S : Type 0} → Player S → Player S → Type 0
-SameMemory p q =
-    (q.ledgers.messages.rows.ghost_name ≡ p.ledgers.messages.rows.ghost_name)
-    × (q.ledgers.statuses.rows.ghost_name ≡ p.ledgers.statuses.rows.ghost_name)
 
 -- what a call gave back, and the world and the buffer after it
 pub record Stepped : Type 0 where

@@ -1,10 +1,12 @@
 // One call.
 ghost use Rattle.std.specs.Prelude.{◌≡◌, ℕ, List, [], ◌∷◌, ◌++◌};
+ghost use Rattle.message_rows.specs.declared.message.MessageRow.{MessageRow};
+ghost use Rattle.status_rows.specs.declared.status.StatusRow.{StatusRow};
 ghost use Rattle.player.specs.Answers.{answer_of};
 ghost use Rattle.account.specs.Laws.{Laws};
 ghost use Rattle.deeds.specs.Ranges.{InRange};
 ghost use Rattle.player.specs.Runs.{Event, event, account, Agrees, Brings};
-ghost use Rattle.player.specs.Steps.{world_in, SameMemory, after, admitted, arrived, closed, stepped};
+ghost use Rattle.player.specs.Steps.{world, with_slots, after, admitted, arrived, closed, stepped};
 
 use crate::call::Call;
 use crate::player::Player;
@@ -16,21 +18,22 @@ use delivery::answering::answer;
 use delivery::handing_out::hand_out;
 use delivery::reading::read_out;
 use ledger::table::Ledger;
+use message_rows::message::MessageRow;
 use office::oldest::{collect, notice};
 use routing::row::RouteRow;
 use spool::Spool;
+use status_rows::status::StatusRow;
 use sweeping::sweep::sweep;
 
 // Admits a connection under a number that is free.
 fn admit<S: Spool>(
-    player: &mut Player<'_, S>,
+    player: &mut Player<S>,
     clock: u32,
     connection: usize,
     fingerprint: [u8; 32],
     clients: &Ledger<WhiteListRow>,
 ) -> Told
-    ensures outcome { (buf : List ℕ) → after (answer_of result) (world_in player.new) buf ≡ admitted (world_in player.old) clock connection fingerprint clients.now.rows.now buf }
-    ensures memory { SameMemory player.old player.new }
+    ensures { (ms : List MessageRow) (ss : List StatusRow) (buf : List ℕ) → after (answer_of result) (world player.new.relay player.new.connections.slots ms ss) buf ≡ admitted (world player.old.relay player.old.connections.slots ms ss) clock connection fingerprint clients.now.rows.now buf }
 {
     if !player.connections.is_free(connection) {
         return Told::NoCall;
@@ -52,15 +55,18 @@ fn admit<S: Spool>(
 
 // Brings a record on the connection that is named.
 fn bring_on<S: Spool>(
-    player: &mut Player<'_, S>,
+    player: &mut Player<S>,
+    messages: &mut [MessageRow],
+    statuses: &mut [StatusRow],
     clock: u32,
     connection: usize,
     rec: &[u8],
     routes: &[RouteRow],
 ) -> Told
-    ensures outcome { (buf : List ℕ) → after (answer_of result) (world_in player.new) buf ≡ arrived (world_in player.old) clock connection rec.now routes.now buf }
-    ensures memory { SameMemory player.old player.new }
+    ensures { (buf : List ℕ) → after (answer_of result) (world player.new.relay player.new.connections.slots messages.new statuses.new) buf ≡ arrived (world player.old.relay player.old.connections.slots messages.old statuses.old) clock connection rec.now routes.now buf }
 {
+    let mut messages = Ledger::new(messages);
+    let mut statuses = Ledger::new(statuses);
     match player.connections.at(connection) {
         Some(connection) => Told::Arrived(arrive(
             &mut player.relay,
@@ -68,7 +74,8 @@ fn bring_on<S: Spool>(
             clock,
             rec,
             routes,
-            &mut player.ledgers,
+            &mut messages,
+            &mut statuses,
         )),
         None => Told::NoCall,
     }
@@ -76,22 +83,22 @@ fn bring_on<S: Spool>(
 
 // The same; the time in what is brought is of 32 bits, since it is bytes.
 fn bring<S: Spool>(
-    player: &mut Player<'_, S>,
+    player: &mut Player<S>,
+    messages: &mut [MessageRow],
+    statuses: &mut [StatusRow],
     clock: u32,
     connection: usize,
     rec: &[u8],
     routes: &[RouteRow],
 ) -> Told
-    ensures outcome { (buf : List ℕ) → after (answer_of result) (world_in player.new) buf ≡ arrived (world_in player.old) clock connection rec.now routes.now buf }
-    ensures memory { SameMemory player.old player.new }
+    ensures outcome { (buf : List ℕ) → after (answer_of result) (world player.new.relay player.new.connections.slots messages.new statuses.new) buf ≡ arrived (world player.old.relay player.old.connections.slots messages.old statuses.old) clock connection rec.now routes.now buf }
     ensures in_range { InRange rec.now }
 {
-    bring_on(player, clock, connection, rec, routes)
+    bring_on(player, messages, statuses, clock, connection, rec, routes)
 }
 
-fn close<S: Spool>(player: &mut Player<'_, S>, connection: usize) -> Told
-    ensures outcome { (buf : List ℕ) → after (answer_of result) (world_in player.new) buf ≡ closed (world_in player.old) connection buf }
-    ensures memory { SameMemory player.old player.new }
+fn close<S: Spool>(player: &mut Player<S>, connection: usize) -> Told
+    ensures { (ms : List MessageRow) (ss : List StatusRow) (buf : List ℕ) → after (answer_of result) (world player.new.relay player.new.connections.slots ms ss) buf ≡ closed (world player.old.relay player.old.connections.slots ms ss) connection buf }
 {
     match player.connections.at(connection) {
         Some(_) => {
@@ -103,9 +110,14 @@ fn close<S: Spool>(player: &mut Player<'_, S>, connection: usize) -> Told
 }
 
 // Makes one call.
-fn make<S: Spool>(player: &mut Player<'_, S>, call: Call<'_>, buf: &mut [u8]) -> Told
-    ensures outcome { after (answer_of result) (world_in player.new) buf.new ≡ stepped (world_in player.old) call.entry buf.old }
-    ensures memory { SameMemory player.old player.new }
+fn make<S: Spool>(
+    player: &mut Player<S>,
+    messages: &mut [MessageRow],
+    statuses: &mut [StatusRow],
+    call: Call<'_>,
+    buf: &mut [u8],
+) -> Told
+    ensures outcome { after (answer_of result) (world player.new.relay player.new.connections.slots messages.new statuses.new) buf.new ≡ stepped (world player.old.relay player.old.connections.slots messages.old statuses.old) call.entry buf.old }
     ensures brings { Brings call.entry }
 {
     match call {
@@ -120,7 +132,7 @@ fn make<S: Spool>(player: &mut Player<'_, S>, call: Call<'_>, buf: &mut [u8]) ->
             connection,
             rec,
             routes,
-        } => bring(player, clock, connection, rec, routes),
+        } => bring(player, messages, statuses, clock, connection, rec, routes),
         Call::Close { connection } => close(player, connection),
         Call::HandOut { clock } => Told::HandedOut(hand_out(&mut player.relay, clock)),
         Call::Read {
@@ -143,11 +155,16 @@ fn make<S: Spool>(player: &mut Player<'_, S>, call: Call<'_>, buf: &mut [u8]) ->
 
 // Makes one call. Whatever was called before, and whatever this call brings: where the relay and its ledger of messages are
 // as the account of a log has it, they are afterwards as the account of the log with this call has it, and so the laws hold.
-pub fn step<S: Spool>(player: &mut Player<'_, S>, call: Call<'_>, buf: &mut [u8]) -> Told
-    ensures outcome { after (answer_of result) (world_in player.new) buf.new ≡ stepped (world_in player.old) call.entry buf.old }
-    ensures memory { SameMemory player.old player.new }
-    ensures account_goes_on { (log : List Event) → Agrees (account log) (world_in player.old) → Agrees (account (log ++ (event call.entry (answer_of result) buf.new ∷ []))) (world_in player.new) }
-    ensures no_request_lost_or_doubled { (log : List Event) → Agrees (account log) (world_in player.old) → Laws (account (log ++ (event call.entry (answer_of result) buf.new ∷ []))) player.new.relay }
+pub fn step<S: Spool>(
+    player: &mut Player<S>,
+    messages: &mut [MessageRow],
+    statuses: &mut [StatusRow],
+    call: Call<'_>,
+    buf: &mut [u8],
+) -> Told
+    ensures outcome { after (answer_of result) (world player.new.relay player.new.connections.slots messages.new statuses.new) buf.new ≡ stepped (world player.old.relay player.old.connections.slots messages.old statuses.old) call.entry buf.old }
+    ensures account_goes_on { (log : List Event) → Agrees (account log) (world player.old.relay player.old.connections.slots messages.old statuses.old) → Agrees (account (log ++ (event call.entry (answer_of result) buf.new ∷ []))) (world player.new.relay player.new.connections.slots messages.new statuses.new) }
+    ensures no_request_lost_or_doubled { (log : List Event) → Agrees (account log) (world player.old.relay player.old.connections.slots messages.old statuses.old) → Laws (account (log ++ (event call.entry (answer_of result) buf.new ∷ []))) player.new.relay }
 {
-    make(player, call, buf)
+    make(player, messages, statuses, call, buf)
 }

@@ -9,8 +9,8 @@ returns g c =
     let neighbour = c.args.connection.now.neighbour in
     let bytes = c.args.rec.now in
     let routes = c.args.routes.now in
-    let ms = c.args.ledgers.now.messages.rows.now in
-    let ss = c.args.ledgers.now.statuses.rows.now in
+    let ms = c.args.messages.now.rows.now in
+    let ss = c.args.statuses.now.rows.now in
     let e = c.receive.ensures.outcome in
     record {
       answer = λ i. (e i).answer;

@@ -6,4 +6,4 @@ use Rattle.player.proofs.step.bring.Goals as goal
 pub returns : goal.returns
 returns g c =
     let bytes : Bytes c.args.rec.now = search rules in
-    record { outcome = c.bring_on.ensures.outcome; memory = c.bring_on.ensures.memory; in_range = bytes_in_range c.args.rec.now bytes }
+    record { outcome = c.bring_on.ensures; in_range = bytes_in_range c.args.rec.now bytes }

@@ -7,7 +7,6 @@ returns g c =
     let b = c.make.ensures.brings in
     record {
       outcome = e;
-      memory = c.make.ensures.memory;
       account_goes_on = λ log h. longer log _ _ _ _ _ _ e b h;
       no_request_lost_or_doubled = λ log h. laws_hold _ _ (longer log _ _ _ _ _ _ e b h);
     }

@@ -1,6 +1,6 @@
 use Rattle.std.proofs.Common.{◌≡◌, map, length, take}
 use Rattle.text.specs.Addresses.{address_text}
-use Rattle.player.specs.Steps.{world_in}
+use Rattle.player.specs.Steps.{world}
 use Rattle.player.specs.Runs.{account, Agrees}
 use Rattle.playing.specs.Logs.{call_of, event_of}
 use Rattle.playing.specs.Plays.{begun}
@@ -11,7 +11,5 @@ use Rattle.playing.proofs.play.play.Given as goal
 abbrev pub invariant-loop-i : goal.invariant-loop-i
 invariant-loop-i g l =
     (map call_of (take l.i l.log) ≡ take l.i l.calls)
-    × Agrees (account (map event_of (take l.i l.log))) (world_in l.player)
-    × Playing (begun (address_text l.fn.address) (g.S.Spool.held l.fn.spool) (length l.fn.messages) (length l.fn.statuses)) l.calls l.fn.log l.i l.log (world_in l.player)
-    × (l.player.ledgers.messages.rows.ghost_name ≡ l.initial.player.ledgers.messages.rows.ghost_name)
-    × (l.player.ledgers.statuses.rows.ghost_name ≡ l.initial.player.ledgers.statuses.rows.ghost_name)
+    × Agrees (account (map event_of (take l.i l.log))) (world l.player.relay l.player.connections.slots l.messages l.statuses)
+    × Playing (begun (address_text l.fn.address) (g.S.Spool.held l.fn.spool) (length l.fn.messages) (length l.fn.statuses)) l.calls l.fn.log l.i l.log (world l.player.relay l.player.connections.slots l.messages l.statuses)

@@ -7,9 +7,7 @@ returns g c =
     record {
       state = b.state;
       connections = b.connections;
-      messages = b.messages;
-      statuses = b.statuses;
-      messages_lender = b.messages_lender;
-      statuses_lender = b.statuses_lender;
+      messages = c.forget.ensures.messages;
+      statuses = c.forget.ensures.statuses;
       begins_the_account = agrees_at_first _ _ _ _ _ _ b.state c.args.address.form (g.S.Spool.few c.args.spool);
     }
