@@ -1,9 +1,10 @@
 // The names of an address, as parts of it.
 ghost use Rattle.std.specs.Prelude.{◌≡◌, ◌+◌, ◌≤◌, length};
 ghost use Rattle.text.specs.Names.{names, first_names};
-ghost use Rattle.address_names.specs.Agree.{agree};
+ghost use Rattle.std.specs.List.{slice_get};
+ghost use Rattle.address_names.specs.Agree.{is_end};
 
-use text::case::is_same_text;
+use text::case::begins_with;
 
 // How many names there are: one more than there are colons.
 #[tactic(auto, using(crate::proofs::Pairs::count_of_colons))]
@@ -14,19 +15,21 @@ pub fn count_names(s: &[u8]) -> usize
     s.iter().filter(|b| **b == b':').count() + 1
 }
 
-// Whether each name of `lead` is that of `target` at its place, as far as both go.
-fn agree(lead: &[u8], target: &[u8]) -> bool
-    ensures { result ≡ agree (names lead.now) (names target.now) }
+// Whether a name ends before the byte that stands at `at`: nothing does, or a colon.
+fn ends_at(s: &[u8], at: usize) -> bool
+    ensures { result ≡ is_end (slice_get s.now at) }
 {
-    lead.split(|b| *b == b':')
-        .zip(target.split(|b| *b == b':'))
-        .all(|(name, other)| is_same_text(name, other))
+    match s.get(at) {
+        Some(b) => *b == b':',
+        None => true,
+    }
 }
 
-// Whether the names of `lead` are the first names of `target`.
-#[tactic(auto, using(crate::proofs::Pairs::first_by_places))]
+// Whether the names of `lead` are the first names of `target`: it begins so, and there a name ends. The letters of a name
+// have no colon in either case, so that the names need not be taken apart.
+#[tactic(auto, using(crate::proofs::Fronts::first_by_front))]
 pub fn are_first_names(lead: &[u8], target: &[u8]) -> bool
     ensures { result ≡ first_names (names lead.now) (names target.now) }
 {
-    count_names(lead) <= count_names(target) && agree(lead, target)
+    begins_with(target, lead) && ends_at(target, lead.len())
 }

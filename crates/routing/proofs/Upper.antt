@@ -5,9 +5,11 @@ use Rattle.std.specs.Option.{option_map}
 use Rattle.std.proofs.lemmas.Bool.Decides.{leb_tells}
 use Rattle.text.proofs.Chains.{onto_first, fold_onto_first, kept, taken, pick_assoc, chain_le, chain_gt}
 use Rattle.routing.specs.declared.row.RouteRow.{RouteRow}
+use Rattle.routing.specs.declared.choice.Ranked.{Ranked}
 use Rattle.routing.specs.Rows.{fits, rank_of}
 use Rattle.routing.specs.Choice.{Candidate, preferred, best_from, place_of, best_row, better_of, way_at}
 use Rattle.routing.specs.Best.{row_at}
+use Rattle.routing.specs.Ranked.{seen, with_rank, better_ranked, better_after}
 
 -- the upper of two rows stays where the lower ranks no higher
 abbrev stays : RouteRow → RouteRow → Bool
@@ -65,3 +67,42 @@ module _ (t d : List ℕ) where
   -- the way of the row that is picked is that of the best row by its place
   pub picked_way : (rows : List RouteRow) → option_map (λ x. x.way) (row_of_best t d rows) ≡ way_at rows (best_row t d rows)
   picked_way rows = way_of_same rows (best_from t d 0 rows) (row_of_best t d rows) (same_row 0 rows)
+
+-- picking rows by the ranks that go with them is picking them by their ranks
+better_with_rank : (a b : RouteRow) → better_ranked (with_rank a) (with_rank b) ≡ with_rank (better_of a b)
+better_with_rank a b = at (leb (rank_of b) (rank_of a))
+  where
+    at : (q : Bool) → cond q (with_rank a) (with_rank b) ≡ with_rank (cond q a b)
+    at true = refl
+    at false = refl
+
+module _ (t d : List ℕ) where
+  ranked_on : (b : Bool) (a row : RouteRow) (rows : List RouteRow)
+      → ((c : RouteRow) → fold (better_after t d) (Some (with_rank c)) rows ≡ Some (with_rank (fold better_of c (filter (fits t d) rows))))
+      → fold (better_after t d) (cond b (Some (better_ranked (with_rank a) (with_rank row))) (Some (with_rank a))) rows
+      ≡ Some (with_rank (fold better_of a (cond b (row ∷ filter (fits t d) rows) (filter (fits t d) rows))))
+  ranked_on true a row rows h = ap (λ p. fold (better_after t d) (Some p) rows) (better_with_rank a row) ∙ h (better_of a row)
+  ranked_on false a row rows h = h a
+
+  ranked_from : (rows : List RouteRow) (a : RouteRow) → fold (better_after t d) (Some (with_rank a)) rows ≡ Some (with_rank (fold better_of a (filter (fits t d) rows)))
+  ranked_from [] a = refl
+  ranked_from (row ∷ rows) a = ranked_on (fits t d row) a row rows (ranked_from rows)
+
+  ranked_at : (b : Bool) (row : RouteRow) (rows : List RouteRow) → fold (better_after t d) None rows ≡ option_map with_rank (row_of_best t d rows)
+      → fold (better_after t d) (cond b (Some (with_rank row)) None) rows
+      ≡ option_map with_rank (reduce better_of (cond b (row ∷ filter (fits t d) rows) (filter (fits t d) rows)))
+  ranked_at true row rows h = ranked_from rows row
+  ranked_at false row rows h = h
+
+  -- going down the rows with their ranks finds the row that is picked from those that fit
+  pub found_with_rank : (rows : List RouteRow) → fold (better_after t d) None rows ≡ option_map with_rank (row_of_best t d rows)
+  found_with_rank [] = refl
+  found_with_rank (row ∷ rows) = ranked_at (fits t d row) row rows (found_with_rank rows)
+
+pub way_of_seen : (o : Option Ranked) → option_map (λ x. x.row.now.way) o ≡ option_map (λ p. p.1.way) (option_map seen o)
+way_of_seen None = refl
+way_of_seen (Some x) = refl
+
+pub way_of_ranked : (o : Option RouteRow) → option_map (λ p. p.1.way) (option_map with_rank o) ≡ option_map (λ x. x.way) o
+way_of_ranked None = refl
+way_of_ranked (Some x) = refl

@@ -1,20 +1,36 @@
 // The choice of a way: the best row of a table that fits.
 ghost use Rattle.std.specs.Prelude.{◌≡◌};
-ghost use Rattle.routing.specs.Choice.{better_of, best_row, way_at, chosen_way};
+ghost use Rattle.routing.specs.Choice.{best_row, way_at, chosen_way};
+ghost use Rattle.std.specs.Option.{option_map};
+ghost use Rattle.routing.specs.Ranked.{seen, better_after};
 ghost use Rattle.routing.specs.Best.{WhereChosen, WhereNone, WhereRefused, OfFitting, OfBest, NoneFits, IsRefused};
 
 use crate::fit::Query;
 use crate::row::{RouteRow, Way};
 use text::fault::{TextFault, check_address, check_dataflow};
 
-// The upper of two rows that fit, unless the lower ranks higher.
-fn better_of<'a>(upper: &'a RouteRow, lower: &'a RouteRow) -> &'a RouteRow
-    ensures { result.now ≡ better_of upper.now lower.now }
+// A row that fits. Its rank goes with it, so that it is worked out once and not for each row that it is compared with.
+#[derive(Clone, Copy)]
+struct Ranked<'a> {
+    rank: usize,
+    row: &'a RouteRow,
+}
+
+// What was found above a row, unless the row fits and ranks higher.
+fn better_of<'a>(
+    found: Option<Ranked<'a>>,
+    row: &'a RouteRow,
+    query: Query<'_>,
+) -> Option<Ranked<'a>>
+    ensures { option_map seen result ≡ better_after query.entry.target.now query.entry.dataflow.now (option_map seen found.entry) row.now }
 {
-    if lower.rank() > upper.rank() {
-        lower
-    } else {
-        upper
+    if !row.fits(query) {
+        return found;
+    }
+    let rank = row.rank();
+    match found {
+        Some(upper) if upper.rank >= rank => found,
+        _ => Some(Ranked { rank, row }),
     }
 }
 
@@ -23,9 +39,8 @@ fn best_way(rows: &[RouteRow], query: Query<'_>) -> Option<Way>
     ensures { result ≡ way_at rows.now (best_row query.entry.target.now query.entry.dataflow.now rows.now) }
 {
     rows.iter()
-        .filter(|row| row.fits(query))
-        .reduce(better_of)
-        .map(|row| row.way)
+        .fold(None, |found, row| better_of(found, row, query))
+        .map(|best| best.row.way)
 }
 
 // That way, where the texts are lawful.

@@ -2,3 +2,4 @@ pub mod Named
 pub mod Joins
 pub mod Padded
 pub mod Chains
+pub mod Tries

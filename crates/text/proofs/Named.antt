@@ -8,7 +8,7 @@ le_at : (q : Bool) (n k : ℕ) → n ≤ k → cond q 0 (suc n) ≤ suc k
 le_at true n k h = omega arith
 le_at false n k h = omega arith
 
-len_le : (s : List ℕ) → name_len s ≤ length s
+pub len_le : (s : List ℕ) → name_len s ≤ length s
 len_le [] = omega arith
 len_le (b ∷ bs) = le_at (eqb b 58) (name_len bs) (length bs) (len_le bs)
 

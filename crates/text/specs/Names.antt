@@ -1,5 +1,5 @@
 -- The names of an address: what stands between its colons.
-use Rattle.std.specs.Prelude.{◌≡◌, ℕ, suc, ◌≤◌, Bool, true, false, cond, ◌&&◌, List, [], ◌∷◌, length, ◌==◌, nat_le}
+use Rattle.std.specs.Prelude.{◌≡◌, ℕ, suc, ◌≤◌, Bool, true, false, cond, ◌&&◌, List, [], ◌∷◌, length, Some, None, Option, ◌==◌, nat_le}
 use Rattle.std.specs.List.{list_all, slice_split, onto_first, join_with_byte}
 use Rattle.text.specs.Forms.{all, same_text, name_byte, is_address}
 
@@ -31,6 +31,10 @@ all_names ns = list_all is_name ns
 -- names with a colon between each two
 abbrev pub joined : List (List ℕ) → List ℕ
 joined ns = join_with_byte 58 ns
+
+-- whether the name at hand has a byte after b, `begun` where it had one before; none where b may not stand there
+abbrev pub begun_after : Bool → ℕ → Option Bool
+begun_after begun b = cond (name_byte b) (Some true) (cond (b == 58 && begun) (Some false) None)
 
 -- a text that is one or more lawful names joined by single colons, 64 bytes or fewer in all
 pub record Named (bs : List ℕ) : Type 0 where

@@ -1,7 +1,7 @@
 // The forms of the texts in an envelope, each as a test of its bytes.
 ghost use Rattle.std.specs.Prelude.{◌≡◌};
 ghost use Rattle.text.specs.Forms.{all, bytes_from, name_byte, is_address, has_scheme, is_dataflow, is_operation_number, is_contacts};
-ghost use Rattle.text.specs.Names.{names, is_name, all_names, ExactlyNames};
+ghost use Rattle.text.specs.Names.{names, all_names, begun_after, ExactlyNames};
 ghost use Rattle.std.specs.Char.{is_ascii_alphanumeric};
 
 use crate::case::begins_with;
@@ -13,17 +13,26 @@ fn is_name_byte(b: u8) -> bool
     b.is_ascii_alphanumeric() || b == b'-' || b == b'_'
 }
 
-fn is_name(s: &[u8]) -> bool
-    ensures { result ≡ is_name s.now }
+// Whether the name at hand has a byte after this one; none where this one may not stand there.
+fn begun_after(begun: bool, b: u8) -> Option<bool>
+    ensures { result ≡ begun_after begun b }
 {
-    1 <= s.len() && s.iter().all(|b| is_name_byte(*b))
+    if is_name_byte(b) {
+        Some(true)
+    } else if b == b':' && begun {
+        Some(false)
+    } else {
+        None
+    }
 }
 
-// Names joined by single colons.
+// Names joined by single colons: in one pass, since each row of a table is looked at for each way.
 fn has_names(s: &[u8]) -> bool
     ensures { result ≡ all_names (names s.now) }
 {
-    s.split(|b| *b == b':').all(|name| is_name(name))
+    s.iter()
+        .try_fold(false, |begun, b| begun_after(begun, *b))
+        .unwrap_or(false)
 }
 
 // 1 to 64 bytes: names joined by single colons.

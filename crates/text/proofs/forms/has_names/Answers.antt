@@ -1,11 +1,13 @@
-use Rattle.std.proofs.Common.{eqb, rules}
-use Rattle.std.proofs.lemmas.Iterator.Splits.{YieldsList-from_slice_split}
-use Rattle.std.proofs.lemmas.Iterator.Search.{all_from_yields_List}
-use Rattle.text.specs.Names.{is_name}
+use Rattle.std.proofs.Common.{◌≡◌, false, ap, ◌∙◌, rules}
+use Rattle.std.proofs.lemmas.Iterator.{YieldsList-from_slice}
+use Rattle.text.proofs.Joins.{by_parts}
+use Rattle.text.proofs.Tries.{tries, or_false, tries_names, tried}
 use Rattle.text.proofs.forms.has_names.Goals as goal
 
 pub returns : goal.returns
 returns c =
-    all_from_yields_List is_name _ _ _ c.all.ensures.ran
-    (YieldsList-from_slice_split _ (λ b. eqb b 58) c.args.s.now c.split.ensures.rest c.split.ensures.done c.split.ensures.closure (λ x b q k. search rules))
-    (λ x b q k. search rules)
+    let s = c.args.s.now in
+    let t : c.try_fold.result ≡ tries false s =
+    tried _ _ (λ x. x.now) _ _ (λ a x r q k. search rules) _ _ s false c.try_fold.result c.try_fold.ensures.ran (YieldsList-from_slice s c.iter.ensures.rest) in
+    let u : c.unwrap_or.result ≡ or_false c.try_fold.result = search rules in
+    u ∙ ap or_false t ∙ tries_names s false ∙ by_parts s
