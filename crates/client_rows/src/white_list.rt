@@ -74,7 +74,7 @@ impl Row for WhiteListRow {
     }
 
     fn has_key(&self, key: &[u8; 32]) -> bool {
-        self.key() == *key
+        key[..] == self.fingerprint[..]
     }
 
     fn freed() -> WhiteListRow {

@@ -40,14 +40,20 @@ impl MessageKey {
     }
 }
 
+fn row_of(fr: &[u8], on: &[u8], kept: Kept) -> Option<MessageRow>
+    ensures { result ≡ message_row fr.now on.now kept }
+{
+    let key = MessageKey::new(fr, on)?;
+    Some(MessageRow::of(key, kept))
+}
+
 impl MessageRow {
     // A row in use; none where a text is longer than a row can keep.
     pub fn new(fr: &[u8], on: &[u8], kept: Kept) -> Option<MessageRow>
         ensures value { result ≡ message_row fr.now on.now kept }
         ensures parts { IfSome result (MessageParts fr.now on.now kept) }
     {
-        let key = MessageKey::new(fr, on)?;
-        Some(MessageRow::of(key, kept))
+        row_of(fr, on, kept)
     }
 }
 
@@ -76,7 +82,7 @@ impl Row for MessageRow {
     }
 
     fn has_key(&self, key: &MessageKey) -> bool {
-        self.key() == *key
+        self.fr == key.fr && self.on == key.on
     }
 
     fn freed() -> MessageRow {

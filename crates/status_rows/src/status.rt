@@ -96,7 +96,8 @@ impl Row for StatusRow {
     }
 
     fn has_key(&self, key: &StatusKey) -> bool {
-        self.key() == *key
+        let addresses = self.fr == key.fr && self.ad == key.ad;
+        addresses && self.on == key.on && self.code == key.code
     }
 
     fn freed() -> StatusRow {
