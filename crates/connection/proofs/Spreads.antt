@@ -86,7 +86,7 @@ eight : (w : ℕ) → length (bytes_of_word w) ≡ 8
 unfolding bytes_of_word
 eight w = refl
 
-bytes_length : (ws : List ℕ) → length (bytes_of ws) ≡ 8 * length ws
+pub bytes_length : (ws : List ℕ) → length (bytes_of ws) ≡ 8 * length ws
 unfolding bytes_of
 bytes_length [] = refl
 bytes_length (w ∷ ws) = let a = length-append (bytes_of_word w) (bytes_of ws) in let b = eight w in let c = bytes_length ws in omega arith
